@@ -1,0 +1,8 @@
+-- chmod.
+-- Assumes nothing.
+use Rattle.model.specs.State.{State, running}
+use Rattle.model.specs.Parts.{shaped, setMode}
+
+-- The guest runs.
+unfoldable pub chmodStep : State → State
+chmodStep s = shaped s (setMode (s .shape) running)

@@ -1,0 +1,1 @@
+// Document 01 as definitions that run, in specs/, section by section; what follows from them at once, in proofs/. No code.
