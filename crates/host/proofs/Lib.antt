@@ -1,0 +1,10 @@
+pub mod Cut
+pub mod Words
+pub mod View
+pub mod Fields
+pub mod Leads
+pub mod Numbers
+pub mod Marks
+pub mod Inverse
+pub mod FreshBytes
+pub mod Answers

@@ -1,0 +1,22 @@
+-- What is stored is what is held for the lead.
+-- Assumes nothing.
+use mathlib.Core.Path.{ap, _∙_}
+use Prim.Native.Nat.{ℕ}
+use borrow.Author.Needs.{needs}
+use Rattle.host.specs.View.{view, put}
+use Rattle.host.proofs.set_lead.Statement.{statement}
+use Rattle.host.proofs.set_lead.Tie as tie
+
+held-of-requires : tie.Need-held-of-requires
+held-of-requires c κs = search needs
+
+set-requires : tie.Need-set-requires
+set-requires c κs = search needs
+
+returns : tie.Need-returns
+returns c =
+    let a = c .before .before .before .args in
+    c .set .ensures ∙ ap (λ (x : ℕ). put (a .k) (view (a .h .now)) (a .i) x) (c .before .held-of .ensures)
+
+pub set-lead-spec : {M : Type 1} → statement M
+set-lead-spec = tie.close (tie.spec held-of-requires set-requires returns)

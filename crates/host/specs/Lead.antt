@@ -1,0 +1,26 @@
+-- What a place that holds a page plus one leads to, as an answer of code, and what is stored for it.
+-- Assumes nothing.
+use mathlib.Core.Bool.{Bool}
+use Prim.Native.Nat.{ℕ, suc}
+use lib.Dec.{ltb}
+use Rattle.laws.specs.Choice.{pick}
+use Rattle.model.specs.Sizes.{pages}
+use Rattle.model.specs.State.{lead, isPage}
+use Rattle.host.specs.declared.Ma.{Ma}
+use Rattle.host.specs.declared.Lead.{Lead}
+use Rattle.host.specs.declared.Lead.the-variants.{To, Nowhere}
+
+abbrev pub ma : ℕ → Ma
+ma p = record { 0 = p }
+
+-- of a number that is a page, or nowhere
+abbrev pub toward : ℕ → Lead
+toward p = pick (isPage p) (To (ma p)) Nowhere
+
+abbrev pub leadOf : ℕ → Lead
+leadOf e = toward (lead e)
+
+-- the page plus one, 0 for nowhere and for a number that is no page
+abbrev pub heldOf : Lead → ℕ
+heldOf (To p) = pick (isPage (p .0)) (suc (p .0)) 0
+heldOf Nowhere = 0

@@ -1,0 +1,444 @@
+// The host's state as lent bytes: where each field stands (docs/STATE.md), one getter and one setter for each, and the numbers that address them.
+// A getter answers 0 past the end of its field, and a setter changes nothing there.
+mod values; // values.rt: numbers of more than one byte, the active guest and the mode, the map of free pages
+
+pub use values::active;
+pub use values::free_pages;
+pub use values::is_free;
+pub use values::line_value;
+pub use values::lowest_free;
+pub use values::mark_free;
+pub use values::memory;
+pub use values::mode;
+pub use values::set_active;
+pub use values::set_line_value;
+pub use values::set_memory;
+pub use values::set_mode;
+pub use values::unmark_free;
+pub use values::whole;
+ghost use mathlib.Core.Path.{_≡_};
+ghost use mathlib.Core.Bool.{true};
+ghost use Prim.Native.Nat.{ℕ, _+_, _*_, _<_, _≤_};
+ghost use lib.Dec.{eqb};
+ghost use Rattle.laws.specs.Choice.{at};
+ghost use Rattle.model.specs.Sizes.{addresses, physicals};
+ghost use Rattle.host.specs.View.{bytes, view, Whole, listed, column, put, ownerField, kindField, cacheableField, entryField, physicalField, currentField, callField, callAField, callBField, lineAddressField, linePageField, historyField, slotAddressField, slotPageField};
+ghost use Rattle.host.specs.Lead.{leadOf, heldOf};
+
+pub const GUESTS: usize = 4;
+
+pub const PHYSICALS: usize = 16;
+
+pub const PAGES: usize = 64;
+
+pub const ADDRESSES: usize = 64;
+
+pub const LINES: usize = 16;
+
+pub const SETS: usize = 8;
+
+pub const SLOTS: usize = 8;
+
+pub const SIZE: usize = 4754;
+
+pub type Host = [u8; SIZE];
+
+// A machine page, a virtual address, a physical address of a guest, a guest: four kinds of numbers that are never mixed.
+pub struct Ma(pub u8);
+
+pub struct Va(pub u8);
+
+pub struct Pa(pub u8);
+
+pub struct Guest(pub u8);
+
+// What an entry, a physical place, a line or a TLB slot leads to.
+pub enum Lead {
+    To(Ma),
+    Nowhere,
+}
+
+// ---- fields
+
+// Where a field stands.
+struct Field {
+    start: usize,
+    size: usize,
+}
+
+const FIELDS: [Field; 17] = [
+    Field { start: 0, size: 64 },
+    Field {
+        start: 64,
+        size: 64,
+    },
+    Field {
+        start: 128,
+        size: 64,
+    },
+    Field {
+        start: 192,
+        size: 4096,
+    },
+    Field {
+        start: 4288,
+        size: 64,
+    },
+    Field {
+        start: 4352,
+        size: 8,
+    },
+    Field {
+        start: 4360,
+        size: 4,
+    },
+    Field {
+        start: 4364,
+        size: 4,
+    },
+    Field {
+        start: 4368,
+        size: 4,
+    },
+    Field {
+        start: 4372,
+        size: 4,
+    },
+    Field {
+        start: 4376,
+        size: 1,
+    },
+    Field {
+        start: 4377,
+        size: 1,
+    },
+    Field {
+        start: 4378,
+        size: 16,
+    },
+    Field {
+        start: 4394,
+        size: 16,
+    },
+    Field {
+        start: 4410,
+        size: 8,
+    },
+    Field {
+        start: 4418,
+        size: 8,
+    },
+    Field {
+        start: 4426,
+        size: 8,
+    },
+];
+
+const OWNER: usize = 0;
+
+const KIND: usize = 1;
+
+const CACHEABLE: usize = 2;
+
+const ENTRY: usize = 3;
+
+const PHYSICAL: usize = 4;
+
+const CURRENT: usize = 6;
+
+const CALL: usize = 7;
+
+const CALL_A: usize = 8;
+
+const CALL_B: usize = 9;
+
+const LINE_ADDRESS: usize = 12;
+
+const LINE_PAGE: usize = 13;
+
+const HISTORY: usize = 14;
+
+const SLOT_ADDRESS: usize = 15;
+
+const SLOT_PAGE: usize = 16;
+
+// Byte i of field k, 0 past its end.
+fn get(h: &Host, k: usize, i: usize) -> u8
+    requires { ⌜ listed k ≡ true ⌝ }
+    ensures { λ r. ⌜ r ≡ at (column k (view (now (h .entry)))) i ⌝ }
+{
+    let f = FIELDS[k];
+    let start = f.start;
+    let size = f.size;
+    if i < size { h[start + i] } else { 0 }
+}
+
+// Nothing past its end.
+fn set(h: &mut Host, k: usize, i: usize, v: u8)
+    requires { ⌜ listed k ≡ true ⌝ }
+    ensures { λ _. ⌜ view (now (h .exit)) ≡ put k (view (now (h .entry))) i v ⌝ }
+{
+    let f = FIELDS[k];
+    let start = f.start;
+    let size = f.size;
+    if i < size {
+        h[start + i] = v;
+    }
+}
+
+// ---- a page plus one
+
+fn lead_of(e: u8) -> Lead
+    ensures { λ r. ⌜ r ≡ leadOf e ⌝ }
+{
+    if e == 0 {
+        return Lead::Nowhere;
+    }
+    if (e as usize) <= PAGES {
+        Lead::To(Ma(e - 1))
+    } else {
+        Lead::Nowhere
+    }
+}
+
+fn held_of(l: Lead) -> u8
+    ensures { λ r. ⌜ r ≡ heldOf l ⌝ }
+{
+    match l {
+        Lead::To(p) => {
+            let n = p.0;
+            if (n as usize) < PAGES { n + 1 } else { 0 }
+        }
+        Lead::Nowhere => 0,
+    }
+}
+
+// To what place i of field k leads, and whether it is empty.
+fn get_lead(h: &Host, k: usize, i: usize) -> Lead
+    requires { ⌜ listed k ≡ true ⌝ }
+    ensures { λ r. ⌜ r ≡ leadOf (at (column k (view (now (h .entry)))) i) ⌝ }
+{
+    lead_of(get(h, k, i))
+}
+
+fn get_empty(h: &Host, k: usize, i: usize) -> bool
+    requires { ⌜ listed k ≡ true ⌝ }
+    ensures { λ r. ⌜ r ≡ eqb (at (column k (view (now (h .entry)))) i) 0 ⌝ }
+{
+    get(h, k, i) == 0
+}
+
+fn set_lead(h: &mut Host, k: usize, i: usize, l: Lead)
+    requires { ⌜ listed k ≡ true ⌝ }
+    ensures { λ _. ⌜ view (now (h .exit)) ≡ put k (view (now (h .entry))) i (heldOf l) ⌝ }
+{
+    set(h, k, i, held_of(l))
+}
+
+// ---- pages
+
+pub fn owner(h: &Host, p: Ma) -> u8
+    ensures { λ r. ⌜ r ≡ at (view (now (h .entry)) .shape .pages .owner) (p .0) ⌝ }
+{
+    get(h, OWNER, p.0 as usize)
+}
+
+pub fn set_owner(h: &mut Host, p: Ma, v: u8)
+    ensures { λ _. ⌜ view (now (h .exit)) ≡ put ownerField (view (now (h .entry))) (p .0) v ⌝ }
+{
+    set(h, OWNER, p.0 as usize, v)
+}
+
+pub fn kind(h: &Host, p: Ma) -> u8
+    ensures { λ r. ⌜ r ≡ at (view (now (h .entry)) .shape .pages .kind) (p .0) ⌝ }
+{
+    get(h, KIND, p.0 as usize)
+}
+
+pub fn set_kind(h: &mut Host, p: Ma, v: u8)
+    ensures { λ _. ⌜ view (now (h .exit)) ≡ put kindField (view (now (h .entry))) (p .0) v ⌝ }
+{
+    set(h, KIND, p.0 as usize, v)
+}
+
+pub fn cacheable(h: &Host, p: Ma) -> u8
+    ensures { λ r. ⌜ r ≡ at (view (now (h .entry)) .shape .pages .cacheable) (p .0) ⌝ }
+{
+    get(h, CACHEABLE, p.0 as usize)
+}
+
+pub fn set_cacheable(h: &mut Host, p: Ma, v: u8)
+    ensures { λ _. ⌜ view (now (h .exit)) ≡ put cacheableField (view (now (h .entry))) (p .0) v ⌝ }
+{
+    set(h, CACHEABLE, p.0 as usize, v)
+}
+
+// To what table t leads from address a.
+pub fn entry(h: &Host, t: Ma, a: Va) -> Lead
+    ensures { λ r. ⌜ r ≡ leadOf (at (view (now (h .entry)) .shape .pages .entry) (addresses * t .0 + a .0)) ⌝ }
+{
+    get_lead(h, ENTRY, ADDRESSES * t.0 as usize + a.0 as usize)
+}
+
+pub fn entry_empty(h: &Host, t: Ma, a: Va) -> bool
+    ensures { λ r. ⌜ r ≡ eqb (at (view (now (h .entry)) .shape .pages .entry) (addresses * t .0 + a .0)) 0 ⌝ }
+{
+    get_empty(h, ENTRY, ADDRESSES * t.0 as usize + a.0 as usize)
+}
+
+pub fn set_entry(h: &mut Host, t: Ma, a: Va, l: Lead)
+    ensures { λ _. ⌜ view (now (h .exit)) ≡ put entryField (view (now (h .entry))) (addresses * t .0 + a .0) (heldOf l) ⌝ }
+{
+    set_lead(h, ENTRY, ADDRESSES * t.0 as usize + a.0 as usize, l)
+}
+
+// To what guest g's physical address a leads.
+pub fn physical(h: &Host, g: Guest, a: Pa) -> Lead
+    ensures { λ r. ⌜ r ≡ leadOf (at (view (now (h .entry)) .shape .pages .physical) (physicals * g .0 + a .0)) ⌝ }
+{
+    get_lead(h, PHYSICAL, PHYSICALS * g.0 as usize + a.0 as usize)
+}
+
+pub fn physical_empty(h: &Host, g: Guest, a: Pa) -> bool
+    ensures { λ r. ⌜ r ≡ eqb (at (view (now (h .entry)) .shape .pages .physical) (physicals * g .0 + a .0)) 0 ⌝ }
+{
+    get_empty(h, PHYSICAL, PHYSICALS * g.0 as usize + a.0 as usize)
+}
+
+pub fn set_physical(h: &mut Host, g: Guest, a: Pa, l: Lead)
+    ensures { λ _. ⌜ view (now (h .exit)) ≡ put physicalField (view (now (h .entry))) (physicals * g .0 + a .0) (heldOf l) ⌝ }
+{
+    set_lead(h, PHYSICAL, PHYSICALS * g.0 as usize + a.0 as usize, l)
+}
+
+// ---- guests
+
+pub fn current(h: &Host, g: Guest) -> Pa
+    ensures { λ r. ⌜ r .0 ≡ at (view (now (h .entry)) .shape .guests .current) (g .0) ⌝ }
+{
+    Pa(get(h, CURRENT, g.0 as usize))
+}
+
+pub fn set_current(h: &mut Host, g: Guest, a: Pa)
+    ensures { λ _. ⌜ view (now (h .exit)) ≡ put currentField (view (now (h .entry))) (g .0) (a .0) ⌝ }
+{
+    set(h, CURRENT, g.0 as usize, a.0)
+}
+
+pub fn call(h: &Host, g: Guest) -> u8
+    ensures { λ r. ⌜ r ≡ at (view (now (h .entry)) .shape .guests .call) (g .0) ⌝ }
+{
+    get(h, CALL, g.0 as usize)
+}
+
+pub fn set_call(h: &mut Host, g: Guest, v: u8)
+    ensures { λ _. ⌜ view (now (h .exit)) ≡ put callField (view (now (h .entry))) (g .0) v ⌝ }
+{
+    set(h, CALL, g.0 as usize, v)
+}
+
+pub fn call_a(h: &Host, g: Guest) -> u8
+    ensures { λ r. ⌜ r ≡ at (view (now (h .entry)) .shape .guests .callA) (g .0) ⌝ }
+{
+    get(h, CALL_A, g.0 as usize)
+}
+
+pub fn set_call_a(h: &mut Host, g: Guest, v: u8)
+    ensures { λ _. ⌜ view (now (h .exit)) ≡ put callAField (view (now (h .entry))) (g .0) v ⌝ }
+{
+    set(h, CALL_A, g.0 as usize, v)
+}
+
+pub fn call_b(h: &Host, g: Guest) -> u8
+    ensures { λ r. ⌜ r ≡ at (view (now (h .entry)) .shape .guests .callB) (g .0) ⌝ }
+{
+    get(h, CALL_B, g.0 as usize)
+}
+
+pub fn set_call_b(h: &mut Host, g: Guest, v: u8)
+    ensures { λ _. ⌜ view (now (h .exit)) ≡ put callBField (view (now (h .entry))) (g .0) v ⌝ }
+{
+    set(h, CALL_B, g.0 as usize, v)
+}
+
+// ---- the cache's lines and histories
+
+pub fn line_address(h: &Host, i: usize) -> Va
+    ensures { λ r. ⌜ r .0 ≡ at (view (now (h .entry)) .shape .cache .lineAddress) i ⌝ }
+{
+    Va(get(h, LINE_ADDRESS, i))
+}
+
+pub fn set_line_address(h: &mut Host, i: usize, a: Va)
+    ensures { λ _. ⌜ view (now (h .exit)) ≡ put lineAddressField (view (now (h .entry))) i (a .0) ⌝ }
+{
+    set(h, LINE_ADDRESS, i, a.0)
+}
+
+pub fn line_page(h: &Host, i: usize) -> Lead
+    ensures { λ r. ⌜ r ≡ leadOf (at (view (now (h .entry)) .shape .cache .linePage) i) ⌝ }
+{
+    get_lead(h, LINE_PAGE, i)
+}
+
+pub fn line_empty(h: &Host, i: usize) -> bool
+    ensures { λ r. ⌜ r ≡ eqb (at (view (now (h .entry)) .shape .cache .linePage) i) 0 ⌝ }
+{
+    get_empty(h, LINE_PAGE, i)
+}
+
+pub fn set_line_page(h: &mut Host, i: usize, l: Lead)
+    ensures { λ _. ⌜ view (now (h .exit)) ≡ put linePageField (view (now (h .entry))) i (heldOf l) ⌝ }
+{
+    set_lead(h, LINE_PAGE, i, l)
+}
+
+pub fn history(h: &Host, k: usize) -> u8
+    ensures { λ r. ⌜ r ≡ at (view (now (h .entry)) .shape .cache .history) k ⌝ }
+{
+    get(h, HISTORY, k)
+}
+
+pub fn set_history(h: &mut Host, k: usize, v: u8)
+    ensures { λ _. ⌜ view (now (h .exit)) ≡ put historyField (view (now (h .entry))) k v ⌝ }
+{
+    set(h, HISTORY, k, v)
+}
+
+// ---- the TLB
+
+pub fn slot_address(h: &Host, i: usize) -> Va
+    ensures { λ r. ⌜ r .0 ≡ at (view (now (h .entry)) .shape .tlb .slotAddress) i ⌝ }
+{
+    Va(get(h, SLOT_ADDRESS, i))
+}
+
+pub fn set_slot_address(h: &mut Host, i: usize, a: Va)
+    ensures { λ _. ⌜ view (now (h .exit)) ≡ put slotAddressField (view (now (h .entry))) i (a .0) ⌝ }
+{
+    set(h, SLOT_ADDRESS, i, a.0)
+}
+
+pub fn slot_page(h: &Host, i: usize) -> Lead
+    ensures { λ r. ⌜ r ≡ leadOf (at (view (now (h .entry)) .shape .tlb .slotPage) i) ⌝ }
+{
+    get_lead(h, SLOT_PAGE, i)
+}
+
+pub fn slot_empty(h: &Host, i: usize) -> bool
+    ensures { λ r. ⌜ r ≡ eqb (at (view (now (h .entry)) .shape .tlb .slotPage) i) 0 ⌝ }
+{
+    get_empty(h, SLOT_PAGE, i)
+}
+
+pub fn set_slot_page(h: &mut Host, i: usize, l: Lead)
+    ensures { λ _. ⌜ view (now (h .exit)) ≡ put slotPageField (view (now (h .entry))) i (heldOf l) ⌝ }
+{
+    set_lead(h, SLOT_PAGE, i, l)
+}
+
+// ---- the fresh machine
+
+mod start;
+
+pub use start::fresh;

@@ -1,0 +1,123 @@
+// The fresh machine, stored byte by byte whatever the bytes were.
+use super::ADDRESSES;
+use super::GUESTS;
+use super::Host;
+use super::PAGES;
+use super::PHYSICALS;
+use super::SIZE;
+ghost use mathlib.Core.Path.{_≡_};
+ghost use Prim.Native.Nat.{ℕ, _*_, _≤_, _<_};
+ghost use lib.ListN.{length};
+ghost use Rattle.model.specs.Sizes.{guests, physicals};
+ghost use Rattle.model.specs.Fresh.{freshOwner, freshKind, freshPhysical, fresh};
+ghost use Rattle.host.specs.Cut.{begin};
+ghost use Rattle.host.specs.View.{sizes, bytes, view, physicalField};
+ghost use Rattle.host.specs.FreshBytes.{freshMap, laterByte, freshByte};
+
+const HOST_PAGES: usize = 4;
+
+const FIRST_FREE: usize = GUESTS + HOST_PAGES;
+
+// Where the fields begin that do not hold 0 alone, and those after them.
+const KIND_AT: usize = PAGES;
+
+const CACHEABLE_AT: usize = KIND_AT + PAGES;
+
+const ENTRY_AT: usize = CACHEABLE_AT + PAGES;
+
+const PHYSICAL_AT: usize = ENTRY_AT + PAGES * ADDRESSES;
+
+const MAP_AT: usize = PHYSICAL_AT + GUESTS * PHYSICALS;
+
+const CURRENT_AT: usize = MAP_AT + 8;
+
+// after the current tables, the calls with their two arguments, and the active guest
+const MODE_AT: usize = CURRENT_AT + 4 * GUESTS + 1;
+
+// 2 + g for guest g, 1 for the host, 0 for none
+fn fresh_owner(p: usize) -> u8
+    ensures { λ r. ⌜ r ≡ freshOwner p ⌝ }
+{
+    if p < GUESTS {
+        return p as u8 + 2;
+    }
+    if p < FIRST_FREE { 1 } else { 0 }
+}
+
+// 2 for a table, 1 for data, 0 for none
+fn fresh_kind(p: usize) -> u8
+    ensures { λ r. ⌜ r ≡ freshKind p ⌝ }
+{
+    if p < GUESTS {
+        return 2;
+    }
+    if p < FIRST_FREE { 1 } else { 0 }
+}
+
+// Page g plus one at guest g's physical 0.
+fn fresh_physical(i: usize) -> u8
+    requires { ⌜ i < guests * physicals ⌝ }
+    ensures { λ r. ⌜ r ≡ freshPhysical i ⌝ }
+{
+    if i % PHYSICALS == 0 {
+        (i / PHYSICALS) as u8 + 1
+    } else {
+        0
+    }
+}
+
+// Byte k of the map: whole bytes, since the first free page is a multiple of 8 and the pages are 64.
+fn fresh_map(k: usize) -> u8
+    ensures { λ r. ⌜ r ≡ freshMap k ⌝ }
+{
+    if k < FIRST_FREE / 8 { 0 } else { 255 }
+}
+
+// The byte at place i, from the physical places on.
+fn later_byte(i: usize) -> u8
+    requires { ⌜ begin sizes physicalField ≤ i ⌝ }
+    ensures { λ r. ⌜ r ≡ laterByte i ⌝ }
+{
+    if i < MAP_AT {
+        return fresh_physical(i - PHYSICAL_AT);
+    }
+    if i < CURRENT_AT {
+        return fresh_map(i - MAP_AT);
+    }
+    if i == MODE_AT { 1 } else { 0 }
+}
+
+// The byte at place i.
+fn fresh_byte(i: usize) -> u8
+    ensures { λ r. ⌜ r ≡ freshByte i ⌝ }
+{
+    if i < KIND_AT {
+        return fresh_owner(i);
+    }
+    if i < CACHEABLE_AT {
+        return fresh_kind(i - KIND_AT);
+    }
+    if i < ENTRY_AT {
+        return 1;
+    }
+    if i < PHYSICAL_AT {
+        return 0;
+    }
+    later_byte(i)
+}
+
+// Over a part, so that its length is known.
+fn fill(s: &mut [u8])
+    requires { ⌜ length (now s) ≡ bytes ⌝ }
+    ensures { λ _. ⌜ view (now (s .exit)) ≡ fresh ⌝ }
+{
+    for i in 0..SIZE {
+        s[i] = fresh_byte(i);
+    }
+}
+
+pub fn fresh(h: &mut Host)
+    ensures { λ _. ⌜ view (now (h .exit)) ≡ fresh ⌝ }
+{
+    fill(h);
+}
