@@ -1,0 +1,24 @@
+-- The table, or the number past the last page.
+-- Assumes nothing.
+use mathlib.Core.Path.{ap, _∙_}
+use Rattle.host.specs.View.{view}
+use Rattle.model.specs.State.{table}
+use Rattle.asks.specs.Leads.{placeOf}
+use Rattle.asks.proofs.Tables.{place-toward, table-below}
+use borrow.Author.Needs.{needs}
+use Rattle.acts.proofs.tables.in_force.Statement.{statement}
+use Rattle.acts.proofs.tables.in_force.Tie as tie
+
+table-requires : tie.Need-table-requires
+table-requires c κs = search needs
+
+place-requires : tie.Need-place-requires
+place-requires c κs = search needs
+
+returns : tie.Need-returns
+returns c =
+    let s = view (c .before .before .args .h .now) .shape in
+    c .place .ensures ∙ ap placeOf (c .before .table .ensures) ∙ place-toward (table s) (table-below s)
+
+pub in-force-spec : {M : Type 1} → statement M
+in-force-spec = tie.close (tie.spec table-requires place-requires returns)

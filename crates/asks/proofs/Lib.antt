@@ -1,0 +1,6 @@
+pub mod Some
+pub mod Maps
+pub mod Tables
+pub mod Row
+pub mod Own
+pub mod Actions

@@ -1,0 +1,23 @@
+-- A page or nowhere, as an answer of code and as the model's number.
+-- Assumes nothing.
+use mathlib.Core.Bool.{Bool, true, false}
+use mathlib.Core.List.{List}
+use Prim.Native.Nat.{ℕ}
+use lib.Dec.{eqb}
+use Rattle.laws.specs.Choice.{pick, at}
+use Rattle.model.specs.State.{kindTable, nowhere}
+use Rattle.host.specs.declared.Lead.{Lead}
+use Rattle.host.specs.declared.Lead.the-variants.{To, Nowhere}
+
+abbrev pub placeOf : Lead → ℕ
+placeOf (To p) = p .0
+placeOf Nowhere = nowhere
+
+-- the page if it is a table
+abbrev pub onlyTable : List ℕ → Lead → Lead
+onlyTable kind (To p) = pick (eqb (at kind (p .0)) kindTable) (To p) Nowhere
+onlyTable kind Nowhere = Nowhere
+
+abbrev pub leads : Lead → Bool
+leads (To p) = true
+leads Nowhere = false

@@ -1,0 +1,4 @@
+pub mod Maps
+pub mod Leads
+pub mod Actions
+pub mod Refusals

@@ -1,0 +1,159 @@
+// One set of the cache as an array of two lines, taken by value, one way replaced, handed back; and the cache in the host's bytes.
+mod lines;
+
+use host::Host;
+use host::Lead;
+use host::Ma;
+use host::Va;
+pub use lines::access;
+pub use lines::fill;
+pub use lines::present;
+pub use lines::store;
+pub use lines::take_out;
+pub use lines::take_out_page;
+ghost use mathlib.Core.Path.{_≡_};
+ghost use Prim.Native.Nat.{_≤_};
+ghost use Rattle.model.specs.Sizes.{sets};
+ghost use Rattle.host.specs.View.{view};
+ghost use Rattle.cache.specs.Sets.{lineFrom, setFrom, leadsTo, hasKeyIn, findIn, emptyWay, placeIn, replacedIn, usedIn, enteredIn};
+
+pub const WAYS: usize = 2;
+
+// A line: its address, the page it leads to, whether it is empty, and its value.
+// A damaged line may be neither empty nor lead to a page.
+pub struct Line {
+    pub address: Va,
+    pub page: Lead,
+    pub empty: bool,
+    pub value: u32,
+}
+
+// A set: its ways and its history.
+pub struct Set {
+    pub ways: [Line; WAYS],
+    pub history: u8,
+}
+
+// ---- a set by value
+
+// Whether the lead is to page p.
+pub fn leads_to(l: Lead, p: Ma) -> bool
+    ensures { λ r. ⌜ r ≡ leadsTo l (p .0) ⌝ }
+{
+    match l {
+        Lead::To(q) => q.0 == p.0,
+        Lead::Nowhere => false,
+    }
+}
+
+// Whether the line has the key: page and address.
+pub fn has_key(l: Line, a: Va, p: Ma) -> bool
+    ensures { λ r. ⌜ r ≡ hasKeyIn l (a .0) (p .0) ⌝ }
+{
+    let to = l.page;
+    leads_to(to, p) && l.address.0 == a.0
+}
+
+// The way with the key, or WAYS.
+pub fn find(s: Set, a: Va, p: Ma) -> usize
+    ensures { λ r. ⌜ r ≡ findIn s (a .0) (p .0) ⌝ }
+{
+    for w in 0..WAYS {
+        let l = s.ways[w];
+        if has_key(l, a, p) {
+            return w;
+        }
+    }
+    WAYS
+}
+
+// The lower empty way, or WAYS.
+fn empty_way(s: Set) -> usize
+    ensures { λ r. ⌜ r ≡ emptyWay s ⌝ }
+{
+    for w in 0..WAYS {
+        let l = s.ways[w];
+        if l.empty {
+            return w;
+        }
+    }
+    WAYS
+}
+
+// The way for a line that enters: the lower empty one; if none, the one the history names.
+pub fn place(s: Set) -> usize
+    ensures { λ r. ⌜ r ≡ placeIn s ⌝ }
+{
+    let w = empty_way(s);
+    if w < WAYS { w } else { s.history as usize }
+}
+
+// One way replaced; nothing past the last.
+pub fn replaced(s: Set, w: usize, l: Line) -> Set
+    ensures { λ r. ⌜ r ≡ replacedIn s w l ⌝ }
+{
+    let mut t = s;
+    if w < WAYS {
+        t.ways[w] = l;
+    }
+    t
+}
+
+// After a hit in way w: as it was.
+pub fn used(s: Set, w: usize) -> Set
+    ensures { λ r. ⌜ r ≡ usedIn s w ⌝ }
+{
+    let ways = s.ways;
+    Set {
+        ways,
+        history: s.history,
+    }
+}
+
+// After a line entered way w: the history names the other way.
+pub fn entered(s: Set, w: usize) -> Set
+    ensures { λ r. ⌜ r ≡ enteredIn s w ⌝ }
+{
+    let ways = s.ways;
+    Set {
+        ways,
+        history: if w == 0 { 1 } else { 0 },
+    }
+}
+
+// ---- a set of the bytes
+
+fn line_at(h: &Host, i: usize) -> Line
+    ensures { λ r. ⌜ r ≡ lineFrom (view (now (h .entry))) i ⌝ }
+{
+    Line {
+        address: host::line_address(h, i),
+        page: host::line_page(h, i),
+        empty: host::line_empty(h, i),
+        value: host::line_value(h, i),
+    }
+}
+
+fn set_at(h: &Host, k: usize) -> Set
+    requires { ⌜ k ≤ sets ⌝ }
+    ensures { λ r. ⌜ r ≡ setFrom (view (now (h .entry))) k ⌝ }
+{
+    let a = line_at(h, WAYS * k);
+    let b = line_at(h, WAYS * k + 1);
+    Set {
+        ways: [a, b],
+        history: host::history(h, k),
+    }
+}
+
+// Set k; past the last set each number is 0.
+pub fn load(h: &Host, k: usize) -> Set
+    ensures { λ r. ⌜ r ≡ setFrom (view (now (h .entry))) k ⌝ }
+{
+    host::whole(h);
+    if k < host::SETS {
+        set_at(h, k)
+    } else {
+        set_at(h, host::SETS)
+    }
+}

@@ -1,0 +1,5 @@
+pub mod Loops
+pub mod Leading
+pub mod Owners
+pub mod Rules
+pub mod Ranges

@@ -1,0 +1,44 @@
+-- Each test is of what was read.
+-- Assumes nothing.
+use Rattle.rules.specs.Places.{sought, ownBy}
+use borrow.Author.Needs.{needs}
+use Rattle.rules.proofs.entries.own_by.Statement.{statement}
+use Rattle.rules.proofs.entries.own_by.Tie as tie
+
+owner-requires : tie.Need-owner-requires
+owner-requires c κs = search needs
+
+kind-requires : tie.Need-kind-requires
+kind-requires c κs = search needs
+
+reserved-address-requires : tie.Need-reserved-address-requires
+reserved-address-requires c κs = search needs
+
+kind-requires-2 : tie.Need-kind-requires-2
+kind-requires-2 c κs = search needs
+
+cast-result : tie.Need-cast-result
+cast-result c = search needs
+
+add-result : tie.Need-add-result
+add-result c = search needs
+
+owner-requires-2 : tie.Need-owner-requires-2
+owner-requires-2 c κs = search needs
+
+returns : tie.Need-returns
+unfolding ownBy sought
+returns c = cc
+
+pub own-by-spec : {M : Type 1} → statement M
+own-by-spec =
+    tie.close
+    (tie.spec
+    owner-requires
+    kind-requires
+    reserved-address-requires
+    kind-requires-2
+    cast-result
+    add-result
+    owner-requires-2
+    returns)

@@ -1,0 +1,22 @@
+-- Each test is of what was read.
+-- Assumes nothing.
+use Rattle.rules.specs.Places.{sought}
+use borrow.Author.Needs.{needs}
+use Rattle.rules.proofs.seek.held_again.Statement.{statement}
+use Rattle.rules.proofs.seek.held_again.Tie as tie
+
+physical-requires : tie.Need-physical-requires
+physical-requires c κs = search needs
+
+leads-at-requires : tie.Need-leads-at-requires
+leads-at-requires c κs = search needs
+
+implies-requires : tie.Need-implies-requires
+implies-requires c κs = search needs
+
+returns : tie.Need-returns
+unfolding sought
+returns c = cc
+
+pub held-again-spec : {M : Type 1} → statement M
+held-again-spec = tie.close (tie.spec physical-requires leads-at-requires implies-requires returns)

@@ -1,0 +1,19 @@
+-- Each test is of what was read.
+-- Assumes nothing.
+use Rattle.rules.specs.Places.{sought}
+use borrow.Author.Needs.{needs}
+use Rattle.rules.proofs.seek.held_at.Statement.{statement}
+use Rattle.rules.proofs.seek.held_at.Tie as tie
+
+physical-requires : tie.Need-physical-requires
+physical-requires c κs = search needs
+
+leads-at-requires : tie.Need-leads-at-requires
+leads-at-requires c κs = search needs
+
+returns : tie.Need-returns
+unfolding sought
+returns c = cc
+
+pub held-at-spec : {M : Type 1} → statement M
+held-at-spec = tie.close (tie.spec physical-requires leads-at-requires returns)

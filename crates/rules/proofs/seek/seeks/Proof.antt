@@ -1,0 +1,58 @@
+-- Each arm answers for the search that it is named by.
+-- Assumes nothing.
+use borrow.Author.Needs.{needs}
+use Rattle.rules.proofs.seek.seeks.Statement.{statement}
+use Rattle.rules.proofs.seek.seeks.Tie as tie
+
+enum-known-t : tie.Need-enum-known-t
+enum-known-t c = search needs
+
+held-again-requires : tie.Need-held-again-requires
+held-again-requires c κs = search needs
+
+enum-known-t-2 : tie.Need-enum-known-t-2
+enum-known-t-2 c = search needs
+
+held-at-requires : tie.Need-held-at-requires
+held-at-requires c κs = search needs
+
+enum-known-t-3 : tie.Need-enum-known-t-3
+enum-known-t-3 c = search needs
+
+maps-at-requires : tie.Need-maps-at-requires
+maps-at-requires c κs = search needs
+
+enum-known-t-4 : tie.Need-enum-known-t-4
+enum-known-t-4 c = search needs
+
+key-again-requires : tie.Need-key-again-requires
+key-again-requires c κs = search needs
+
+returns : tie.Need-returns
+returns c = cc
+
+returns-2 : tie.Need-returns-2
+returns-2 c = cc
+
+returns-3 : tie.Need-returns-3
+returns-3 c = cc
+
+returns-4 : tie.Need-returns-4
+returns-4 c = cc
+
+pub seeks-spec : {M : Type 1} → statement M
+seeks-spec =
+    tie.close
+    (tie.spec
+    enum-known-t
+    held-again-requires
+    enum-known-t-2
+    held-at-requires
+    enum-known-t-3
+    maps-at-requires
+    enum-known-t-4
+    key-again-requires
+    returns
+    returns-2
+    returns-3
+    returns-4)

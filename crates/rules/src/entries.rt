@@ -1,0 +1,72 @@
+// What rules 4 and 10 test at each entry: one pass over all tables.
+use super::EntryTest;
+use super::FIRST_RESERVED;
+use super::GUESTS;
+use super::KIND_DATA;
+use super::KIND_TABLE;
+use super::OWNER_GUEST;
+use super::SETS;
+use super::STEALTH;
+use super::STEALTH_SET;
+use super::range::entry_in_range;
+use host::Host;
+use host::Lead;
+use host::Ma;
+use host::Va;
+ghost use mathlib.Core.Path.{_≡_};
+ghost use Prim.Native.Nat.{_+_, _*_, _/_, _%_, _<_};
+ghost use Rattle.laws.specs.Search.{allBelow};
+ghost use Rattle.model.specs.Sizes.{pages, addresses, reserved};
+ghost use Rattle.host.specs.View.{view};
+ghost use Rattle.rules.specs.Places.{ownBy, ownAt, entryTest};
+
+pub(crate) fn reserved_address(a: Va) -> bool
+    ensures { λ r. ⌜ r ≡ reserved (a .0) ⌝ }
+{
+    (a.0 >= FIRST_RESERVED) | ((a.0 % SETS == STEALTH_SET) & !(a.0 == STEALTH))
+}
+
+pub(crate) fn own_by(h: &Host, m: Ma, a: Va, p: Ma) -> bool
+    ensures { λ r. ⌜ r ≡ ownBy (view (now (h .entry))) (m .0) (a .0) (p .0) ⌝ }
+{
+    let o = host::owner(h, m);
+    (host::kind(h, m) == KIND_TABLE)
+        & !reserved_address(a)
+        & (host::kind(h, p) == KIND_DATA)
+        & (o < OWNER_GUEST as u8 + GUESTS)
+        & (host::owner(h, p) == o)
+}
+
+pub(crate) fn own(h: &Host, m: Ma, a: Va) -> bool
+    ensures { λ r. ⌜ r ≡ ownAt (view (now (h .entry))) (m .0) (a .0) ⌝ }
+{
+    let l = host::entry(h, m, a);
+    match l {
+        Lead::To(p) => own_by(h, m, a, p),
+        Lead::Nowhere => host::entry_empty(h, m, a),
+    }
+}
+
+pub(crate) fn entry_passes(h: &Host, t: EntryTest, m: Ma, a: Va) -> bool
+    ensures { λ r. ⌜ r ≡ entryTest t (view (now (h .entry))) (m .0) (a .0) ⌝ }
+{
+    match t {
+        EntryTest::Own => own(h, m, a),
+        EntryTest::Range => entry_in_range(h, m, a),
+    }
+}
+
+pub(crate) fn all_entries(h: &Host, t: EntryTest) -> bool
+    ensures { λ r. ⌜ r ≡ allBelow (pages * addresses) (λ i. entryTest t (view (now (h .entry))) (i / addresses) (i % addresses)) ⌝ }
+{
+    let mut i: usize = 0;
+    while i < host::PAGES * host::ADDRESSES {
+        let m = Ma((i / host::ADDRESSES) as u8);
+        let a = Va((i % host::ADDRESSES) as u8);
+        if !entry_passes(h, t, m, a) {
+            return false;
+        }
+        i += 1;
+    }
+    true
+}

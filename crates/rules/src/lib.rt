@@ -1,0 +1,215 @@
+// The test of validity: a function for each rule of docs/RULES.md.
+mod entries;
+mod places;
+mod range;
+mod seek;
+
+use entries::all_entries;
+use host::Guest;
+use host::Host;
+use host::Ma;
+use host::Pa;
+use host::Va;
+use places::call_kept;
+use places::current_table;
+use places::first_way;
+use places::held;
+use places::line;
+use places::page_kept;
+use places::registered;
+use places::slot;
+use places::stealth_cacheable;
+use places::stealth_page;
+use places::table_in_force;
+use range::guest_in_range;
+use range::line_in_range;
+use range::page_in_range;
+use range::place_in_range;
+use range::set_in_range;
+use range::slot_in_range;
+ghost use mathlib.Core.Path.{_≡_};
+ghost use Prim.Native.Nat.{_+_, _*_, _<_};
+ghost use Rattle.laws.specs.Search.{allBelow};
+ghost use Rattle.model.specs.State.{table};
+ghost use Rattle.model.specs.RuleTests.{rule1?, rule2?, rule8?, rule9?, rule10?, rule3?, rule4?, rule5?, rule7?};
+ghost use Rattle.host.specs.View.{view};
+ghost use Rattle.rules.specs.Places.{test};
+
+const GUESTS: u8 = host::GUESTS as u8;
+
+const ADDRESSES: u8 = host::ADDRESSES as u8;
+
+const FIRST_RESERVED: u8 = 48;
+
+const STEALTH: u8 = 7;
+
+const STEALTH_SET: u8 = 7;
+
+const SETS: u8 = host::SETS as u8;
+
+const LINES: u8 = host::LINES as u8;
+
+const WAYS: u8 = LINES / SETS;
+
+const PAGES: u8 = host::PAGES as u8;
+
+const PHYSICALS: u8 = host::PHYSICALS as u8;
+
+const SLOTS: u8 = host::SLOTS as u8;
+
+const FIRST_HOST_PAGE: u8 = 4;
+
+const FIRST_FREE_PAGE: u8 = 8;
+
+const STEALTH_LINE: usize = 14;
+
+const CALLS: u8 = 6;
+
+const RUNNING: u8 = 1;
+
+const OWNER_NONE: u8 = 0;
+
+const OWNER_HOST: u8 = 1;
+
+const KIND_NONE: u8 = 0;
+
+const MARKS: u8 = 2;
+
+const HISTORIES: u8 = 2;
+
+const KIND_DATA: u8 = 1;
+
+const KIND_TABLE: u8 = 2;
+
+const OWNER_GUEST: usize = 2;
+
+enum Test {
+    Held,
+    Registered,
+    CurrentTable,
+    StealthCacheable,
+    Line,
+    Call,
+    Page,
+    Slot,
+    PageRange,
+    PlaceRange,
+    GuestRange,
+    LineRange,
+    SetRange,
+    SlotRange,
+}
+
+enum EntryTest {
+    Own,
+    Range,
+}
+
+enum Sought {
+    HeldAgain(Guest, Pa, Ma),
+    HeldAt(Guest, Ma),
+    MapsAt(Va, Ma),
+    KeyAgain(usize, Va, Ma),
+}
+
+fn passes(h: &Host, t: Test, i: u8) -> bool
+    ensures { λ r. ⌜ r ≡ test t (view (now (h .entry))) i ⌝ }
+{
+    match t {
+        Test::Held => held(h, i),
+        Test::Registered => registered(h, Ma(i)),
+        Test::CurrentTable => current_table(h, Guest(i)),
+        Test::StealthCacheable => stealth_cacheable(h, Ma(i)),
+        Test::Line => line(h, i),
+        Test::Call => call_kept(h, Guest(i)),
+        Test::Page => page_kept(h, Ma(i)),
+        Test::Slot => slot(h, i),
+        Test::PageRange => page_in_range(h, Ma(i)),
+        Test::PlaceRange => place_in_range(h, i),
+        Test::GuestRange => guest_in_range(h, Guest(i)),
+        Test::LineRange => line_in_range(h, i),
+        Test::SetRange => set_in_range(h, i),
+        Test::SlotRange => slot_in_range(h, i),
+    }
+}
+
+fn all(h: &Host, t: Test, n: u8) -> bool
+    ensures { λ r. ⌜ r ≡ allBelow n (test t (view (now (h .entry)))) ⌝ }
+{
+    let mut i: u8 = 0;
+    while i < n {
+        if !passes(h, t, i) {
+            return false;
+        }
+        i += 1;
+    }
+    true
+}
+
+pub fn rule3(h: &Host) -> bool
+    ensures { λ r. ⌜ r ≡ rule3? (view (now (h .entry)) .shape .pages .owner) (view (now (h .entry)) .shape .pages .physical) ⌝ }
+{
+    host::whole(h);
+    all(h, Test::Held, GUESTS * PHYSICALS) & all(h, Test::Registered, PAGES)
+}
+
+pub fn rule4(h: &Host) -> bool
+    ensures { λ r. ⌜ r ≡ rule4? (view (now (h .entry)) .shape .pages .owner) (view (now (h .entry)) .shape .pages .kind) (view (now (h .entry)) .shape .pages .entry) ⌝ }
+{
+    host::whole(h);
+    all_entries(h, EntryTest::Own)
+}
+
+pub fn rule5(h: &Host) -> bool
+    ensures { λ r. ⌜ r ≡ rule5? (view (now (h .entry)) .shape .pages .owner) (view (now (h .entry)) .shape .pages .kind) (view (now (h .entry)) .shape .pages .physical) (view (now (h .entry)) .shape .guests .current) ⌝ }
+{
+    all(h, Test::CurrentTable, GUESTS)
+}
+
+pub fn rule7(h: &Host) -> bool
+    ensures { λ r. ⌜ r ≡ rule7? (view (now (h .entry)) .shape .pages .kind) (view (now (h .entry)) .shape .pages .cacheable) (view (now (h .entry)) .shape .pages .entry) (view (now (h .entry)) .shape .cache .lineAddress) (view (now (h .entry)) .shape .cache .linePage) ⌝ }
+{
+    host::whole(h);
+    all(h, Test::Line, LINES)
+}
+
+pub fn rule1(h: &Host) -> bool
+    ensures { λ r. ⌜ r ≡ rule1? (view (now (h .entry)) .shape .guests .call) (view (now (h .entry)) .shape .guests .callA) (view (now (h .entry)) .shape .guests .callB) (view (now (h .entry)) .shape .guests .active) (view (now (h .entry)) .shape .guests .mode) ⌝ }
+{
+    all(h, Test::Call, GUESTS)
+}
+
+pub fn rule2(h: &Host) -> bool
+    ensures { λ r. ⌜ r ≡ rule2? (view (now (h .entry)) .shape .pages .owner) (view (now (h .entry)) .shape .pages .kind) (view (now (h .entry)) .shape .pages .cacheable) (view (now (h .entry)) .values .memory) (view (now (h .entry)) .shape .pages .free) ⌝ }
+{
+    all(h, Test::Page, PAGES)
+}
+
+pub fn rule8(h: &Host) -> bool
+    ensures { λ r. ⌜ r ≡ rule8? (view (now (h .entry)) .shape .pages .entry) (view (now (h .entry)) .shape .tlb .slotAddress) (view (now (h .entry)) .shape .tlb .slotPage) (table (view (now (h .entry)) .shape)) ⌝ }
+{
+    all(h, Test::Slot, SLOTS)
+}
+
+pub fn rule9(h: &Host) -> bool
+    ensures { λ r. ⌜ r ≡ rule9? (view (now (h .entry)) .shape .pages .entry) (view (now (h .entry)) .shape .cache .lineAddress) (view (now (h .entry)) .shape .cache .linePage) (view (now (h .entry)) .shape .cache .history) (table (view (now (h .entry)) .shape)) ⌝ }
+{
+    let first = first_way(h, stealth_page(h, table_in_force(h)));
+    let second = host::line_empty(h, STEALTH_LINE + 1);
+    first & second & (host::history(h, STEALTH_SET as usize) == 0)
+}
+
+pub fn rule10(h: &Host) -> bool
+    ensures { λ r. ⌜ r ≡ rule10? (view (now (h .entry))) ⌝ }
+{
+    host::whole(h);
+    let a = host::active(h);
+    let singles = (a.0 < GUESTS) & (host::mode(h) < RUNNING + 1);
+    let shapes = all(h, Test::PageRange, PAGES)
+        & all(h, Test::PlaceRange, GUESTS * PHYSICALS)
+        & all(h, Test::GuestRange, GUESTS)
+        & all(h, Test::LineRange, LINES)
+        & all(h, Test::SetRange, SETS)
+        & all(h, Test::SlotRange, SLOTS);
+    singles & shapes & all_entries(h, EntryTest::Range)
+}
