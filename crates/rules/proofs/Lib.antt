@@ -3,3 +3,4 @@ pub mod Leading
 pub mod Owners
 pub mod Rules
 pub mod Ranges
+pub mod Shared

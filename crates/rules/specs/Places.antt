@@ -189,3 +189,21 @@ entryInRange s m va = ltb (at (s .shape .pages .entry) (addresses * m + va)) (su
 unfoldable pub entryTest : EntryTest → State → ℕ → ℕ → Bool
 entryTest Own s m va = ownAt s m va
 entryTest Range s m va = entryInRange s m va
+
+-- ---- 6, of two entries
+
+-- the page that a table maps there, if it is cacheable data, else nowhere
+unfoldable pub counted : State → ℕ → ℕ → ℕ
+counted s m va =
+    let P = s .shape .pages in
+    let p = lead (at (P .entry) (addresses * m + va)) in
+    pick (eqb (at (P .kind) m) kindTable && isPage p && eqb (at (P .kind) p) kindData && eqb (at (P .cacheable) p) 1) p nowhere
+
+abbrev pub countedAt : State → ℕ → ℕ
+countedAt s i = counted s (i / addresses) (i % addresses)
+
+-- no two entries map one such page at different addresses
+unfoldable pub unshared : State → Bool
+unshared s =
+    allBelow (pages * addresses) (λ i. allBelow (pages * addresses) (λ j.
+    isPage (countedAt s i) && eqb (countedAt s i) (countedAt s j) ⇒ eqb (i % addresses) (j % addresses)))

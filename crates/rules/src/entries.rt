@@ -5,10 +5,12 @@ use super::GUESTS;
 use super::KIND_DATA;
 use super::KIND_TABLE;
 use super::OWNER_GUEST;
+use super::PAGES;
 use super::SETS;
 use super::STEALTH;
 use super::STEALTH_SET;
 use super::range::entry_in_range;
+use super::seek::number_of;
 use host::Host;
 use host::Lead;
 use host::Ma;
@@ -18,7 +20,7 @@ ghost use Prim.Native.Nat.{_+_, _*_, _/_, _%_, _<_};
 ghost use Rattle.laws.specs.Search.{allBelow};
 ghost use Rattle.model.specs.Sizes.{pages, addresses, reserved};
 ghost use Rattle.host.specs.View.{view};
-ghost use Rattle.rules.specs.Places.{ownBy, ownAt, entryTest};
+ghost use Rattle.rules.specs.Places.{counted, unshared, ownBy, ownAt, entryTest};
 
 pub(crate) fn reserved_address(a: Va) -> bool
     ensures { λ r. ⌜ r ≡ reserved (a .0) ⌝ }
@@ -66,6 +68,42 @@ pub(crate) fn all_entries(h: &Host, t: EntryTest) -> bool
         if !entry_passes(h, t, m, a) {
             return false;
         }
+        i += 1;
+    }
+    true
+}
+
+// The page that table m maps at a, if it is cacheable data, else nowhere.
+fn counted_page(h: &Host, m: Ma, a: Va) -> Ma
+    ensures { λ r. ⌜ r .0 ≡ counted (view (now (h .entry))) (m .0) (a .0) ⌝ }
+{
+    let p = number_of(host::entry(h, m, a));
+    if (host::kind(h, m) == KIND_TABLE)
+        & (p.0 < PAGES)
+        & (host::kind(h, p) == KIND_DATA)
+        & (host::cacheable(h, p) == 1)
+    {
+        p
+    } else {
+        Ma(PAGES)
+    }
+}
+
+// For each page the address plus one at which it was seen, and a last place for nowhere.
+pub(crate) fn no_page_shared(h: &Host) -> bool
+    ensures { λ r. ⌜ r ≡ unshared (view (now (h .entry))) ⌝ }
+{
+    let mut seen: [u8; host::PAGES + 1] = [0; host::PAGES + 1];
+    let mut i: usize = 0;
+    while i < host::PAGES * host::ADDRESSES {
+        let a = (i % host::ADDRESSES) as u8;
+        let p = counted_page(h, Ma((i / host::ADDRESSES) as u8), Va(a));
+        let k = p.0 as usize;
+        let old = seen[k];
+        if (k < host::PAGES) & (old != 0) & (old != a + 1) {
+            return false;
+        }
+        seen[k] = a + 1;
         i += 1;
     }
     true

@@ -5,6 +5,7 @@ mod range;
 mod seek;
 
 use entries::all_entries;
+use entries::no_page_shared;
 use host::Guest;
 use host::Host;
 use host::Ma;
@@ -31,7 +32,8 @@ ghost use mathlib.Core.Path.{_≡_};
 ghost use Prim.Native.Nat.{_+_, _*_, _<_};
 ghost use Rattle.laws.specs.Search.{allBelow};
 ghost use Rattle.model.specs.State.{table};
-ghost use Rattle.model.specs.RuleTests.{rule1?, rule2?, rule8?, rule9?, rule10?, rule3?, rule4?, rule5?, rule7?};
+ghost use Rattle.model.specs.RuleTests.{rule1?, rule2?, rule8?, rule9?, rule10?, rule3?, rule4?, rule5?, rule6?, rule7?};
+ghost use Rattle.model.specs.Valid.{valid?};
 ghost use Rattle.host.specs.View.{view};
 ghost use Rattle.rules.specs.Places.{test};
 
@@ -166,6 +168,13 @@ pub fn rule5(h: &Host) -> bool
     all(h, Test::CurrentTable, GUESTS)
 }
 
+pub fn rule6(h: &Host) -> bool
+    ensures { λ r. ⌜ r ≡ rule6? (view (now (h .entry)) .shape .pages .kind) (view (now (h .entry)) .shape .pages .cacheable) (view (now (h .entry)) .shape .pages .entry) ⌝ }
+{
+    host::whole(h);
+    no_page_shared(h) & all(h, Test::StealthCacheable, PAGES)
+}
+
 pub fn rule7(h: &Host) -> bool
     ensures { λ r. ⌜ r ≡ rule7? (view (now (h .entry)) .shape .pages .kind) (view (now (h .entry)) .shape .pages .cacheable) (view (now (h .entry)) .shape .pages .entry) (view (now (h .entry)) .shape .cache .lineAddress) (view (now (h .entry)) .shape .cache .linePage) ⌝ }
 {
@@ -212,4 +221,20 @@ pub fn rule10(h: &Host) -> bool
         & all(h, Test::SetRange, SETS)
         & all(h, Test::SlotRange, SLOTS);
     singles & shapes & all_entries(h, EntryTest::Range)
+}
+
+pub fn valid(h: &Host) -> bool
+    ensures { λ r. ⌜ r ≡ valid? (view (now (h .entry))) ⌝ }
+{
+    host::whole(h);
+    rule1(h)
+        & rule2(h)
+        & rule3(h)
+        & rule4(h)
+        & rule5(h)
+        & rule6(h)
+        & rule7(h)
+        & rule8(h)
+        & rule9(h)
+        & rule10(h)
 }
