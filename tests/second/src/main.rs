@@ -1,0 +1,121 @@
+//! `second run|state|rules|step|gen SEED COUNT PROFILE|damage SEED COUNT`
+
+use std::io::{self, BufRead, Read, Write};
+use std::process::ExitCode;
+
+use second::hex::{from_hex, to_hex};
+use second::journal::answer_bytes;
+use second::{damage, fresh, gen, program_output, rules, run_journal, step, State, STATE_BYTES};
+
+type Outcome = Result<(), String>;
+
+const USAGE: &str = "usage: second run | state | rules | step \
+                     | gen SEED COUNT deep|near|noise | damage SEED COUNT";
+
+fn main() -> ExitCode {
+    let words: Vec<String> = std::env::args().skip(1).collect();
+    let words: Vec<&str> = words.iter().map(String::as_str).collect();
+    let outcome = match words[..] {
+        ["run"] => run(),
+        ["state"] => state(),
+        ["rules"] => each_line(rules_line),
+        ["step"] => each_line(step_line),
+        ["gen", seed, count, profile] => generate(seed, count, profile),
+        ["damage", seed, count] => damaged(seed, count),
+        _ => Err(USAGE.into()),
+    };
+    match outcome {
+        Ok(()) => ExitCode::SUCCESS,
+        Err(text) => {
+            eprintln!("{text}");
+            ExitCode::from(2)
+        }
+    }
+}
+
+fn put(bytes: &[u8]) -> Outcome {
+    let mut out = io::stdout().lock();
+    out.write_all(bytes).and_then(|()| out.flush()).map_err(|e| e.to_string())
+}
+
+fn input() -> Result<Vec<u8>, String> {
+    let mut bytes = Vec::new();
+    io::stdin().lock().read_to_end(&mut bytes).map_err(|e| e.to_string())?;
+    Ok(bytes)
+}
+
+fn run() -> Outcome {
+    put(program_output(&input()?).as_bytes())
+}
+
+fn state() -> Outcome {
+    let journal = input()?;
+    let mut machine = fresh();
+    let mut answers = vec![0; answer_bytes(&journal)];
+    // A refused journal leaves the fresh machine as it is.
+    let _ = run_journal(&mut machine, &journal, &mut answers);
+    put(format!("{}\n", to_hex(&machine.to_bytes())).as_bytes())
+}
+
+/// Answers each line of the input that isn't blank.
+fn each_line(answer: fn(&str) -> Result<String, String>) -> Outcome {
+    let mut out = io::BufWriter::new(io::stdout().lock());
+    for (i, line) in io::stdin().lock().lines().enumerate() {
+        let line = line.map_err(|e| e.to_string())?;
+        if !line.trim().is_empty() {
+            let text = answer(&line).map_err(|e| format!("line {}: {e}", i + 1))?;
+            writeln!(out, "{text}").map_err(|e| e.to_string())?;
+        }
+    }
+    out.flush().map_err(|e| e.to_string())
+}
+
+fn state_from_hex(text: &str) -> Result<State, String> {
+    let bytes = from_hex(text).ok_or("not hex")?;
+    if bytes.len() != STATE_BYTES {
+        return Err(format!("a state has {STATE_BYTES} bytes, not {}", bytes.len()));
+    }
+    Ok(State::from_bytes(&bytes))
+}
+
+fn rules_line(line: &str) -> Result<String, String> {
+    let holds = rules(&state_from_hex(line.trim())?);
+    let digit = |holds: bool| if holds { '1' } else { '0' };
+    let each: String = holds.iter().map(|holds| digit(*holds)).collect();
+    Ok(format!("{each} {}", digit(holds.iter().all(|holds| *holds))))
+}
+
+/// A line without a second word has the empty record.
+fn step_line(line: &str) -> Result<String, String> {
+    let line = line.trim();
+    let (state, record) = line.split_once(' ').unwrap_or((line, ""));
+    let mut machine = state_from_hex(state)?;
+    let record = from_hex(record.trim()).ok_or("record: not hex")?;
+    let (number, value) = step(&mut machine, &record);
+    Ok(format!("{number} {value} {}", to_hex(&machine.to_bytes())))
+}
+
+fn numbers(seed: &str, count: &str) -> Result<(u64, usize), String> {
+    match (seed.parse(), count.parse()) {
+        (Ok(seed), Ok(count)) => Ok((seed, count)),
+        _ => Err(USAGE.into()),
+    }
+}
+
+fn generate(seed: &str, count: &str, profile: &str) -> Outcome {
+    let (seed, count) = numbers(seed, count)?;
+    put(&gen::journal(seed, count, profile).ok_or(USAGE)?)
+}
+
+fn damaged(seed: &str, count: &str) -> Outcome {
+    let (seed, count) = numbers(seed, count)?;
+    let states = damage::states(seed, count);
+    let lines: String = states.iter().map(|s| to_hex(&s.to_bytes()) + "\n").collect();
+    put(lines.as_bytes())?;
+    let alone: Vec<usize> = states.iter().filter_map(damage::broken_alone).collect();
+    for rule in 0..10 {
+        let times = alone.iter().filter(|broken| **broken == rule).count();
+        eprintln!("rule {} broken alone {times} times", rule + 1);
+    }
+    Ok(())
+}

@@ -1,0 +1,272 @@
+//! Each rule by itself, on states damaged at chosen bytes.
+
+mod support;
+
+use second::{damage, rules, valid, State};
+use support::Machine;
+
+const OWNER: usize = 0;
+const KIND: usize = 64;
+const MARK: usize = 128;
+const ENTRY: usize = 192;
+const PHYSICAL: usize = 4288;
+const FREE: usize = 4352;
+const CURRENT: usize = 4360;
+const CALL: usize = 4364;
+const CALL_A: usize = 4368;
+const CALL_B: usize = 4372;
+const ACTIVE: usize = 4376;
+const MODE: usize = 4377;
+const LINE: usize = 4378;
+const LINE_PAGE: usize = 4394;
+const HISTORY: usize = 4410;
+const SLOT: usize = 4418;
+const SLOT_PAGE: usize = 4426;
+const MEMORY: usize = 4434;
+const LINE_VALUE: usize = 4690;
+
+fn entry(table: usize, va: usize) -> usize {
+    ENTRY + 64 * table + va
+}
+
+/// Guest 0: page 8 at 0 (dirty line), 9 at 7, 10 at 1 and 9, table 11, 12 unmapped.
+/// Guest 1: page 13 at 7, 14 at 8 (line). Guest 0 runs, with a TLB entry for 0.
+fn base() -> Vec<u8> {
+    let mut m = Machine::fresh();
+    for (pa, kind) in [(1, 0), (2, 0), (3, 0), (4, 1), (5, 0)] {
+        m.served(4, pa, kind);
+    }
+    for (va, pa) in [(0, 1), (7, 2), (1, 3), (9, 3)] {
+        m.served(1, va, pa);
+    }
+    m.write(0, 5);
+    m.go_to(1);
+    for (pa, va) in [(1, 7), (2, 8)] {
+        m.served(4, pa, 0);
+        m.served(1, va, pa);
+    }
+    m.read(8);
+    m.go_to(0);
+    assert_eq!(m.read(0), 5);
+    assert_eq!(m.line(7, 0), Some((7, 9, 0)));
+    assert_eq!((m.line(0, 0), m.line(0, 1)), (Some((0, 8, 5)), Some((8, 14, 0))));
+    m.0.to_bytes()
+}
+
+/// Changes bytes of the base; exactly the named rules must be broken.
+fn breaks(changes: &[(usize, u8)], expected: &[usize]) {
+    let mut bytes = base();
+    for (at, byte) in changes {
+        bytes[*at] = *byte;
+    }
+    let state = State::from_bytes(&bytes);
+    let holds = rules(&state);
+    let broken: Vec<usize> = (1..=10).filter(|rule| !holds[rule - 1]).collect();
+    assert_eq!(broken, expected, "{changes:?}");
+    assert_eq!(valid(&state), expected.is_empty());
+}
+
+#[test]
+fn rule_1_calls() {
+    breaks(&[(CALL, 1)], &[1]);
+    breaks(&[(CALL + 1, 1)], &[]);
+    breaks(&[(CALL + 1, 1), (CALL_A + 1, 63), (CALL_B + 1, 15)], &[]);
+    breaks(&[(CALL, 6)], &[10]);
+    breaks(&[(CALL + 1, 6), (CALL_A + 1, 200), (CALL_B + 1, 200)], &[10]);
+    breaks(&[(CALL + 1, 1), (CALL_A + 1, 64)], &[1, 10]);
+    breaks(&[(CALL + 1, 1), (CALL_B + 1, 16)], &[1, 10]);
+    breaks(&[(CALL + 1, 2), (CALL_B + 1, 1)], &[1, 10]);
+    breaks(&[(CALL + 1, 3), (CALL_A + 1, 16)], &[1, 10]);
+    breaks(&[(CALL + 1, 4), (CALL_B + 1, 1)], &[]);
+    breaks(&[(CALL + 1, 4), (CALL_B + 1, 2)], &[1, 10]);
+    breaks(&[(CALL + 1, 5), (CALL_B + 1, 1)], &[1, 10]);
+    breaks(&[(MODE, 0), (CALL, 3)], &[]);
+    breaks(&[(MODE, 2), (CALL, 3)], &[10]);
+    breaks(&[(ACTIVE, 4), (CALL, 3)], &[8, 9, 10]);
+}
+
+#[test]
+fn rule_2_pages_of_host_and_nobody() {
+    breaks(&[(MEMORY + 4 * 4 + 3, 1)], &[2]);
+    breaks(&[(MARK + 4, 0)], &[2]);
+    breaks(&[(MARK + 7, 2)], &[2, 10]);
+    breaks(&[(KIND + 5, 0)], &[2]);
+    breaks(&[(OWNER + 4, 6)], &[2, 10]);
+    breaks(&[(OWNER + 20, 1)], &[2]);
+    breaks(&[(OWNER + 20, 1), (KIND + 20, 1), (FREE + 2, 0xEF)], &[2]);
+    breaks(&[(KIND + 20, 1)], &[2]);
+    breaks(&[(KIND + 20, 3)], &[2, 10]);
+    breaks(&[(MARK + 20, 0)], &[2]);
+    breaks(&[(MEMORY + 4 * 20, 1)], &[2]);
+    breaks(&[(FREE + 2, 0xEF)], &[2]);
+    breaks(&[(FREE + 1, 0x81)], &[2]);
+}
+
+#[test]
+fn rule_2_odd_owners_and_tables() {
+    breaks(&[(OWNER + 20, 6)], &[2, 10]);
+    let nobodys = [(OWNER + 20, 6), (FREE + 2, 0xEF)];
+    breaks(&nobodys, &[10]);
+    let with = |more: &[(usize, u8)]| [&nobodys[..], more].concat();
+    breaks(&with(&[(KIND + 20, 1), (MEMORY + 80, 5), (MARK + 20, 0)]), &[10]);
+    breaks(&with(&[(KIND + 20, 2)]), &[10]);
+    breaks(&with(&[(KIND + 20, 2), (MEMORY + 80, 5)]), &[2, 10]);
+    breaks(&[(KIND + 12, 0)], &[2]);
+    breaks(&[(KIND + 12, 3)], &[2, 10]);
+    breaks(&[(KIND + 12, 2)], &[]);
+    breaks(&[(KIND + 12, 2), (MARK + 12, 0)], &[2]);
+    breaks(&[(MEMORY + 4 * 11, 1)], &[2]);
+    breaks(&[(MARK + 11, 0)], &[2]);
+}
+
+#[test]
+fn rule_3_physical_addresses() {
+    breaks(&[(PHYSICAL + 5, 0)], &[3]);
+    breaks(&[(PHYSICAL + 6, 13)], &[3]);
+    breaks(&[(PHYSICAL + 6, 15)], &[3]);
+    breaks(&[(PHYSICAL + 6, 5)], &[3]);
+    breaks(&[(PHYSICAL + 6, 21)], &[3]);
+    breaks(&[(PHYSICAL + 6, 65)], &[3, 10]);
+    breaks(&[(OWNER + 12, 3)], &[3]);
+    breaks(&[(OWNER + 12, 6)], &[3, 10]);
+    breaks(&[(OWNER + 12, 6), (PHYSICAL + 5, 0)], &[10]);
+    breaks(&[(PHYSICAL + 5, 0), (PHYSICAL + 6, 13)], &[]);
+}
+
+#[test]
+fn rule_4_entries() {
+    breaks(&[(entry(12, 3), 9)], &[4]);
+    breaks(&[(entry(12, 7), 11)], &[4]);
+    breaks(&[(entry(20, 0), 9)], &[4]);
+    breaks(&[(entry(11, 15), 13)], &[4]);
+    breaks(&[(entry(11, 48), 13)], &[4]);
+    breaks(&[(entry(11, 46), 13)], &[]);
+    breaks(&[(entry(0, 8), 15)], &[4]);
+    breaks(&[(entry(0, 3), 15)], &[4, 6]);
+    breaks(&[(entry(0, 3), 5)], &[4]);
+    breaks(&[(entry(0, 3), 12)], &[4]);
+    breaks(&[(entry(0, 3), 21)], &[4]);
+    breaks(&[(entry(0, 3), 65)], &[4, 10]);
+    breaks(&[(entry(0, 7), 65)], &[4, 7, 9, 10]);
+}
+
+#[test]
+fn rule_4_owners() {
+    let odd = [(OWNER + 20, 6), (OWNER + 21, 6), (FREE + 2, 0xCF), (KIND + 20, 2), (KIND + 21, 1)];
+    breaks(&odd, &[10]);
+    breaks(&[&odd[..], &[(entry(20, 3), 22)]].concat(), &[4, 10]);
+    // None and host are owners in range: equal, they are the same.
+    breaks(&[(KIND + 20, 2), (KIND + 21, 1), (entry(20, 3), 22)], &[2]);
+    breaks(&[(KIND + 4, 2), (entry(4, 3), 6)], &[2]);
+    breaks(&[(KIND + 20, 2), (KIND + 21, 1), (OWNER + 21, 6), (entry(20, 3), 22)], &[2, 4, 10]);
+}
+
+#[test]
+fn rule_5_current_tables() {
+    breaks(&[(CURRENT + 1, 5)], &[5]);
+    breaks(&[(CURRENT + 1, 1)], &[5]);
+    breaks(&[(CURRENT + 1, 16)], &[5, 10]);
+    breaks(&[(CURRENT, 5)], &[5, 8, 9]);
+    breaks(&[(CURRENT, 4)], &[8, 9]);
+    breaks(&[(PHYSICAL + 32, 4)], &[3, 5]);
+    breaks(&[(PHYSICAL + 32, 65)], &[3, 5, 10]);
+    breaks(&[(KIND + 2, 1)], &[5]);
+    breaks(&[(KIND + 2, 3)], &[2, 5, 10]);
+    breaks(&[(OWNER + 2, 6)], &[3, 5, 10]);
+}
+
+#[test]
+fn rule_6_sharing_and_stealth() {
+    breaks(&[(MARK + 10, 1)], &[6]);
+    breaks(&[(MARK + 10, 2)], &[10]);
+    breaks(&[(MARK + 13, 0)], &[6]);
+    breaks(&[(MARK + 13, 2)], &[6, 10]);
+    breaks(&[(MARK + 9, 0)], &[6, 7]);
+    breaks(&[(entry(11, 3), 10)], &[6]);
+    breaks(&[(entry(11, 7), 10)], &[]);
+    breaks(&[(entry(11, 0), 9)], &[]);
+    breaks(&[(entry(11, 7), 1)], &[4]);
+    breaks(&[(entry(11, 7), 1), (MARK, 0)], &[2, 4, 6]);
+    breaks(&[(entry(11, 3), 3), (entry(11, 4), 3)], &[4]);
+}
+
+#[test]
+fn rule_7_lines() {
+    breaks(&[(LINE + 1, 0), (LINE_PAGE + 1, 9)], &[7]);
+    breaks(&[(LINE, 64)], &[7, 10]);
+    breaks(&[(LINE_PAGE, 65)], &[7, 10]);
+    breaks(&[(LINE, 0), (LINE_PAGE, 0), (LINE_VALUE, 0), (LINE_PAGE + 2, 9)], &[7]);
+    breaks(&[(LINE_PAGE + 2, 9)], &[7]);
+    breaks(&[(LINE, 16)], &[7]);
+    breaks(&[(LINE + 4, 2), (LINE_PAGE + 4, 5)], &[7]);
+    breaks(&[(LINE + 2, 1), (LINE_PAGE + 2, 11)], &[7]);
+    breaks(&[(MARK + 8, 0)], &[7]);
+    breaks(&[(MARK + 8, 2)], &[7, 10]);
+    breaks(&[(entry(0, 0), 0), (SLOT_PAGE, 0)], &[7]);
+    breaks(&[(entry(0, 0), 0), (SLOT_PAGE, 0), (entry(11, 0), 9)], &[]);
+    breaks(&[(entry(0, 0), 0), (SLOT_PAGE, 0), (entry(12, 0), 9)], &[4, 7]);
+}
+
+#[test]
+fn rule_8_translation_buffer() {
+    breaks(&[(SLOT_PAGE, 0), (SLOT_PAGE + 1, 9)], &[8]);
+    breaks(&[(SLOT_PAGE, 13)], &[8]);
+    breaks(&[(SLOT_PAGE, 65)], &[8, 10]);
+    breaks(&[(SLOT, 64)], &[8, 10]);
+    breaks(&[(SLOT + 2, 2), (SLOT_PAGE + 2, 13)], &[8]);
+    breaks(&[(SLOT + 1, 9), (SLOT_PAGE + 1, 11)], &[]);
+    breaks(&[(ACTIVE, 1)], &[8, 9]);
+    breaks(&[(ACTIVE, 255)], &[8, 9, 10]);
+    breaks(&[(CURRENT, 16)], &[5, 8, 9, 10]);
+    breaks(&[(PHYSICAL, 0)], &[3, 5, 8, 9]);
+    breaks(&[(entry(0, 0), 65), (SLOT_PAGE, 65)], &[4, 7, 8, 10]);
+}
+
+#[test]
+fn rule_9_set_seven() {
+    breaks(&[(HISTORY + 7, 1)], &[9]);
+    breaks(&[(HISTORY + 7, 2)], &[9, 10]);
+    breaks(&[(LINE + 14, 0), (LINE_PAGE + 14, 0)], &[9]);
+    breaks(&[(LINE + 14, 0), (LINE_PAGE + 14, 0), (LINE + 15, 7), (LINE_PAGE + 15, 10)], &[9]);
+    breaks(&[(LINE + 15, 7), (LINE_PAGE + 15, 14)], &[9]);
+    breaks(&[(LINE_PAGE + 14, 14)], &[9]);
+    breaks(&[(LINE + 15, 7), (LINE_PAGE + 15, 65)], &[7, 9, 10]);
+    breaks(&[(LINE + 14, 15)], &[7, 9]);
+    breaks(&[(LINE_VALUE + 4 * 14, 77)], &[]);
+    breaks(&[(MODE, 0)], &[]);
+    breaks(&[(MODE, 0), (HISTORY + 7, 1)], &[9]);
+    // Another guest's table in force (rules 3 and 5 are broken, 9 looks at it).
+    breaks(&[(PHYSICAL, 2), (SLOT_PAGE, 0), (LINE_PAGE + 14, 14)], &[3, 5]);
+}
+
+#[test]
+fn rule_10_ranges_and_empty_places() {
+    breaks(&[(SLOT + 1, 1)], &[10]);
+    breaks(&[(LINE + 2, 1)], &[10]);
+    breaks(&[(LINE_VALUE + 8 + 3, 1)], &[10]);
+    breaks(&[(LINE + 15, 7)], &[10]);
+    breaks(&[(HISTORY + 3, 1)], &[]);
+    breaks(&[(HISTORY + 3, 2)], &[10]);
+    breaks(&[(MARK + 12, 2)], &[10]);
+    breaks(&[(MARK + 12, 0)], &[]);
+    breaks(&[(MODE, 2)], &[10]);
+    breaks(&[(CALL_A + 2, 1)], &[10]);
+    breaks(&[(CALL_B, 1)], &[10]);
+}
+
+#[test]
+fn each_rule_is_broken_alone_by_the_damager() {
+    let mut alone = [0; 10];
+    for state in damage::states(1, 300) {
+        if let Some(rule) = damage::broken_alone(&state) {
+            alone[rule] += 1;
+        }
+    }
+    assert!(alone.iter().all(|times| *times > 0), "{alone:?}");
+}
+
+#[test]
+fn damaged_states_are_the_seeds() {
+    assert!(damage::states(9, 40) == damage::states(9, 40));
+    assert!(damage::states(9, 40) != damage::states(10, 40));
+}
