@@ -41,7 +41,7 @@ use Rattle.keeps.proofs.NewSm.{newSmStep-valid}
 
 module _ {s : State} (v : Valid s) where
   -- the lowest free page is one
-  lowest-free : {p : ℕ} → p < pages → bit (s .shape .pages .free) p ≡ 1
+  pub lowest-free : {p : ℕ} → p < pages → bit (s .shape .pages .free) p ≡ 1
       → (lowestFree (s .shape .pages .free) < pages) × (bit (s .shape .pages .free) (lowestFree (s .shape .pages .free)) ≡ 1)
   unfolding lowestFree
   lowest-free {p} h e =
