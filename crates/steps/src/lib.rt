@@ -1,7 +1,9 @@
 // An action on the host's bytes: judged, done or refused by its number, and answered.
+mod part; // part.rt: the run over records that lie one after another
 mod perform; // perform.rt: what an action does, and what it answers
 
 use host::Host;
+pub use part::run;
 use perform::perform;
 use records::Action;
 use records::Decoded;
@@ -13,6 +15,12 @@ ghost use Rattle.steps.specs.Promises.{Gives, Steps};
 // done with a value, or refused with a number
 pub enum Answer {
     Done(u32),
+    Refused(u8),
+}
+
+// of a run: how many records were taken and how many of these accepted, or the number of the refusal
+pub enum Ran {
+    Took(usize, usize),
     Refused(u8),
 }
 
