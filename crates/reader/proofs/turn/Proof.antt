@@ -143,23 +143,12 @@ module _ {M : Type 1} (𝓤 : URA M) (H : Heap 𝓤) (A : Atoms 𝓤) (W : Given
       move ! (1 ∷ []) $ fsplit ! $ use1 W (‵ Own ⊛ ‵ Own) (shr-slice-copy 𝓤 H A W (named 0) κ u8 .twice s (v ∷ [])) $ split ! $
       move ! (0 ∷ 2 ∷ []) $ fjoin ! $ move ! (2 ∷ 0 ∷ []) $ use2 W (raw (Place 𝓤 H A mem run .pre to-place)) (qed W ((‵ (flft κ q) ⊛ ‵ ftrue) ∷ ‵ (owns (ShrSlice (named 0) κ u8 ∷ usize ∷ []) (s, (n, tt)) vals) ∷ []) ∵ join ! $ frame ! $ done !) $ frame ! $ done !
 
-  abbrev to-next : Val → Next 𝓤 H A mem run .Ghost
-  to-next u = (((κ, tt), (q, tt), tt, (here, tt), (u ∷ [], tt)), tt)
+  -- the three that take a reader ask the same
+  abbrev with-reader : Reader → Val → Next 𝓤 H A mem run .Ghost
+  with-reader h u = (((κ, tt), (q, tt), tt, (h, tt), (u ∷ [], tt)), tt)
 
-  abbrev to-moved : Val → Moved 𝓤 H A mem run .Ghost
-  to-moved u = (((κ, tt), (q, tt), tt, (here, tt), (u ∷ [], tt)), tt)
-
-  abbrev to-at : Val → At 𝓤 H A mem run .Ghost
-  to-at u = (((κ, tt), (q, tt), tt, (there, tt), (u ∷ [], tt)), tt)
-
-  goes-next : (u : Val) → ent 𝓤 (⋆ 𝓤 H A (‵ (B (κ, tt) .own here (u ∷ [])) ∷ (‵ (flft κ q) ⊛ ‵ ftrue) ∷ [])) (Next 𝓤 H A mem run .pre (to-next u))
-  goes-next u = qed W (‵ (B (κ, tt) .own here (u ∷ [])) ∷ (‵ (flft κ q) ⊛ ‵ ftrue) ∷ []) ∵ nothing ! $ move ! (1 ∷ 0 ∷ []) $ fjoin ! $ move ! (1 ∷ 0 ∷ []) $ join ! $ frame ! $ done !
-
-  goes-moved : (u : Val) → ent 𝓤 (⋆ 𝓤 H A (‵ (B (κ, tt) .own here (u ∷ [])) ∷ (‵ (flft κ q) ⊛ ‵ ftrue) ∷ [])) (Moved 𝓤 H A mem run .pre (to-moved u))
-  goes-moved u = qed W (‵ (B (κ, tt) .own here (u ∷ [])) ∷ (‵ (flft κ q) ⊛ ‵ ftrue) ∷ []) ∵ nothing ! $ move ! (1 ∷ 0 ∷ []) $ fjoin ! $ move ! (1 ∷ 0 ∷ []) $ join ! $ frame ! $ done !
-
-  goes-at : (u : Val) → ent 𝓤 (⋆ 𝓤 H A (‵ (B (κ, tt) .own there (u ∷ [])) ∷ (‵ (flft κ q) ⊛ ‵ ftrue) ∷ [])) (At 𝓤 H A mem run .pre (to-at u))
-  goes-at u = qed W (‵ (B (κ, tt) .own there (u ∷ [])) ∷ (‵ (flft κ q) ⊛ ‵ ftrue) ∷ []) ∵ nothing ! $ move ! (1 ∷ 0 ∷ []) $ fjoin ! $ move ! (1 ∷ 0 ∷ []) $ join ! $ frame ! $ done !
+  goes : (h : Reader) (u : Val) → ent 𝓤 (⋆ 𝓤 H A (‵ (B (κ, tt) .own h (u ∷ [])) ∷ (‵ (flft κ q) ⊛ ‵ ftrue) ∷ [])) (Next 𝓤 H A mem run .pre (with-reader h u))
+  goes h u = qed W (‵ (B (κ, tt) .own h (u ∷ [])) ∷ (‵ (flft κ q) ⊛ ‵ ftrue) ∷ []) ∵ nothing ! $ move ! (1 ∷ 0 ∷ []) $ fjoin ! $ move ! (1 ∷ 0 ∷ []) $ join ! $ frame ! $ done !
 
   -- the result, of what was found and the number, at their machine values
   abbrev made : Found → ℕ → Turned
@@ -198,8 +187,8 @@ module _ {M : Type 1} (𝓤 : URA M) (H : Heap 𝓤) (A : Atoms 𝓤) (W : Given
         assigns ! (of-opd ! (load ! (from ! (stop !)) (look ! 13 refl))) (from ! (stop !)) (init ! 7 refl (typed here u is₀)) $
         -- `next`
         use1 W (‵ (B (κ, tt) .own here (u ∷ [])) ⊛ ‵ (B (κ, tt) .own here (u ∷ []))) (LL.copy (T.the-type (namedLft 1 0 tt (κ, tt))) (T′.the-copy (namedLft 1 0 tt (κ, tt))) 𝓤 H A W .twice here (u ∷ [])) $ split ! $
-        move ! (0 ∷ 2 ∷ []) $ use2 W (raw (Next 𝓤 H A mem run .pre (to-next u))) (goes-next u) $
-        calls-at ! fm (Next 𝓤 H A mem run) known-next (to-next u) (and-then ! (load ! (from ! (stop !)) (look ! 7 refl)) (no-more !)) (λ u₁.
+        move ! (0 ∷ 2 ∷ []) $ use2 W (raw (Next 𝓤 H A mem run .pre (with-reader here u))) (goes here u) $
+        calls-at ! fm (Next 𝓤 H A mem run) known-next (with-reader here u) (and-then ! (load ! (from ! (stop !)) (look ! 7 refl)) (no-more !)) (λ u₁.
         use1 W (later (some (λ (t : Found). ((‵ (flft κ q) ⊛ ‵ ftrue) ⊛ ‵ (S.the-row .own t (u₁ ∷ []))) ⊛ raw (ensured 𝓤 H A next.ended (next.clauses 𝓤 H A mem run) (κ, tt) (here, tt) tt t)))) (id⊢ 𝓤 _) $ await ! tt $ pick ! (λ t.
         split ! $ move ! (1 ∷ []) $ use1 W (raw (fact 𝓤 (t ≡ foundAt (length (now s)) n))) (next-said 𝓤 H A mem run κ here t) $ heard ! (t ≡ foundAt (length (now s)) n) (λ e₁.
         split ! $ move ! (1 ∷ []) $
@@ -207,16 +196,16 @@ module _ {M : Type 1} (𝓤 : URA M) (H : Heap 𝓤) (A : Atoms 𝓤) (W : Given
         peeks ! S.the-row (Is S.the-row) (shows 𝓤 H A S.the-row) t (u₁ ∷ []) (λ is₁. land ! (from ! (stop !)) (init ! 12 refl (EL.lawful S.the-type S′.the-laws 𝓤 H A W tt .typed t _ is₁ .0)) $
         assigns ! (of-opd ! (load ! (from ! (stop !)) (look ! 14 refl))) (from ! (stop !)) (init ! 4 refl (typed here u is₀)) $
         -- `moved`
-        move ! (2 ∷ 1 ∷ []) $ use2 W (raw (Moved 𝓤 H A mem run .pre (to-moved u))) (goes-moved u) $
-        calls-at ! fm (Moved 𝓤 H A mem run) known-moved (to-moved u) (and-then ! (load ! (from ! (stop !)) (look ! 3 refl)) (no-more !)) (λ u₂.
+        move ! (2 ∷ 1 ∷ []) $ use2 W (raw (Moved 𝓤 H A mem run .pre (with-reader here u))) (goes here u) $
+        calls-at ! fm (Moved 𝓤 H A mem run) known-moved (with-reader here u) (and-then ! (load ! (from ! (stop !)) (look ! 3 refl)) (no-more !)) (λ u₂.
         use1 W (later (some (λ (r : Reader). ((‵ (flft κ q) ⊛ ‵ ftrue) ⊛ ‵ (B (κ, tt) .own r (u₂ ∷ []))) ⊛ raw (ensured 𝓤 H A moved.ended (moved.clauses 𝓤 H A mem run) (κ, tt) (here, tt) tt r)))) (id⊢ 𝓤 _) $ await ! tt $ pick ! (λ r₂.
         split ! $ move ! (1 ∷ []) $ use1 W (raw (fact 𝓤 (r₂ ≡ there))) (moved-said 𝓤 H A mem run κ here r₂) $ heard ! (r₂ ≡ there) (λ e₂.
         split ! $ rewrite ! 1 (λ (h : Reader). ‵ (B (κ, tt) .own h (u₂ ∷ []))) e₂ refl $ move ! (1 ∷ []) $
         -- [what the moved reader owns; the token; what was found owns; what the journal owns; _8; …]
         peeks ! (B (κ, tt)) (Is (B (κ, tt))) (shows 𝓤 H A (B (κ, tt))) there (u₂ ∷ []) (λ is₂. land ! (from ! (stop !)) (init ! 6 refl (typed there u₂ is₂)) $
         -- `at`
-        use2 W (raw (At 𝓤 H A mem run .pre (to-at u₂))) (goes-at u₂) $
-        calls-at ! fm (At 𝓤 H A mem run) known-at (to-at u₂) (and-then ! (load ! (from ! (stop !)) (look ! 5 refl)) (no-more !)) (λ u₃.
+        use2 W (raw (At 𝓤 H A mem run .pre (with-reader there u₂))) (goes there u₂) $
+        calls-at ! fm (At 𝓤 H A mem run) known-at (with-reader there u₂) (and-then ! (load ! (from ! (stop !)) (look ! 5 refl)) (no-more !)) (λ u₃.
         use1 W (later (some (λ (p : ℕ). ((‵ (flft κ q) ⊛ ‵ ftrue) ⊛ ‵ (usize .own p (u₃ ∷ []))) ⊛ raw (ensured 𝓤 H A at.ended (at.clauses 𝓤 H A mem run) (κ, tt) (there, tt) tt p)))) (id⊢ 𝓤 _) $ await ! tt $ pick ! (λ p.
         split ! $ move ! (1 ∷ []) $ use1 W (raw (fact 𝓤 (p ≡ there .position))) (at-said 𝓤 H A mem run κ there p) $ heard ! (p ≡ there .position) (λ e₃.
         split ! $ move ! (1 ∷ []) $
