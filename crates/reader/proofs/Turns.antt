@@ -6,11 +6,11 @@ use mathlib.Core.Bool.{true≢false, false≢true}
 use mathlib.Core.List.{List}
 use Prim.Native.Nat.{ℕ, zero, suc, _+_, _*_, _-_, _%_, _≤_, _<_}
 use native.Mathlib.Omega.{arith}
-use lib.ListN.{length}
+use lib.ListN.{length, take, drop}
 use borrow.Author.Tests.{lt-ltb, le-ltb}
 use Rattle.laws.proofs.Cases.{same?, below?}
 use Rattle.model.specs.Sizes.{recordBytes, headerBytes}
-use Rattle.model.specs.Journal.{wholeRecords, taken, leftOver}
+use Rattle.model.specs.Journal.{wholeRecords, taken, leftOver, recordAt}
 use Rattle.reader.specs.declared.Found.{Found}
 use Rattle.reader.specs.declared.Found.the-variants.{Record, End}
 use Rattle.reader.specs.declared.Turned.{Turned}
@@ -36,9 +36,9 @@ none n p h = rw (lt-ltb (n - p) recordBytes (omega arith))
 abbrev over : ℕ → ℕ
 over n = (n - headerBytes) % recordBytes
 
-pub at-record : (n k : ℕ) → k < wholeRecords n → turnAt n (recordStart k) ≡ record { found = Record (recordStart k); position = recordStart (suc k) }
+pub at-record : (n k : ℕ) → k < wholeRecords n → turnAt n (recordStart k) ≡ record { found = Record (recordStart k); position = recordStart (k + 1) }
 at-record n k h =
-    let on : recordStart k + recordBytes ≡ recordStart (suc k) = omega arith in
+    let on : recordStart k + recordBytes ≡ recordStart (k + 1) = omega arith in
     here n (recordStart k) (omega arith) ∙ ap (λ (p : ℕ). record { found = Record (recordStart k); position = p }) on
 
 pub at-end : (n : ℕ) → turnAt n (recordStart (wholeRecords n)) ≡ record { found = End (over n); position = recordStart (wholeRecords n) }
@@ -46,9 +46,21 @@ at-end n =
     let left : n - recordStart (wholeRecords n) ≡ over n = omega arith in
     none n (recordStart (wholeRecords n)) (omega arith) ∙ ap (λ (l : ℕ). record { found = End l; position = recordStart (wholeRecords n) }) left
 
+-- a turn at record k found a record that starts at s and lies in the journal, and moved on to p
+pub record ThisRecord (n k s p : ℕ) : Type 0 where
+  pub below : k < wholeRecords n
+  pub starts : s ≡ recordStart k
+  pub within : s + recordBytes ≤ n
+  pub moves : p ≡ recordStart (k + 1)
+
+-- a turn at record k found the end, and l bytes left over
+pub record TheEnd (n k l : ℕ) : Type 0 where
+  pub all : k ≡ wholeRecords n
+  pub left : l ≡ over n
+
 -- what a loop over the records knows in either case, of a turn t at the position p that record k starts at
 module _ (n p k : ℕ) (t : Turned) (e : t ≡ turnAt n p) (at : p ≡ recordStart k) (most : k ≤ wholeRecords n) where
-  more : k < wholeRecords n → t ≡ record { found = Record (recordStart k); position = recordStart (suc k) }
+  more : k < wholeRecords n → t ≡ record { found = Record (recordStart k); position = recordStart (k + 1) }
   more h = e ∙ ap (turnAt n) at ∙ at-record n k h
 
   last : wholeRecords n ≤ k → (k ≡ wholeRecords n) × (t .found ≡ End (over n))
@@ -56,22 +68,32 @@ module _ (n p k : ℕ) (t : Turned) (e : t ≡ turnAt n p) (at : p ≡ recordSta
       let all : k ≡ wholeRecords n = omega arith in
       (all, ap foundOf (e ∙ ap (turnAt n) (at ∙ ap recordStart all) ∙ at-end n))
 
-  pub turned-record : (s : ℕ) → t .found ≡ Record s → (k < wholeRecords n) × ((s ≡ recordStart k) × (t .position ≡ recordStart (suc k)))
-  turned-record s f =
-      below? k (wholeRecords n) (λ h. (h, (ap numberIn (sym f ∙ ap foundOf (more h)), ap positionOf (more h))))
+  pub turned-record : {s : ℕ} → t .found ≡ Record s → ThisRecord n k s (t .position)
+  turned-record {s} f =
+      below? k (wholeRecords n)
+      (λ h. let starts : s ≡ recordStart k = ap numberIn (sym f ∙ ap foundOf (more h)) in
+      record { below = h; starts = starts; within = omega (arith, starts); moves = ap positionOf (more h) })
       (λ h. absurd (true≢false (ap isRecord (sym f ∙ last h .1))))
 
-  pub turned-end : (l : ℕ) → t .found ≡ End l → (k ≡ wholeRecords n) × (l ≡ over n)
-  turned-end l f =
+  pub turned-end : {l : ℕ} → t .found ≡ End l → TheEnd n k l
+  turned-end f =
       below? k (wholeRecords n) (λ h. absurd (false≢true (ap isRecord (sym f ∙ ap foundOf (more h)))))
-      (λ h. (last h .0, ap numberIn (sym f ∙ last h .1)))
+      (λ h. record { all = last h .0; left = ap numberIn (sym f ∙ last h .1) })
+
+-- record k as the part of the journal from its start on
+pub lies : (j : List ℕ) (k s : ℕ) → s ≡ recordStart k → take (s + recordBytes - s) (drop s j) ≡ recordAt j k
+lies j k s e =
+    let count : s + recordBytes - s ≡ recordBytes = omega arith in
+    ap (λ (m : ℕ). take m (drop s j)) count ∙ ap (λ (m : ℕ). take recordBytes (drop m j)) e
 
 -- ---- the walk
 
 after : (n k : ℕ) → k ≤ wholeRecords n → afterTurns n k ≡ recordStart k
 unfolding afterTurns
 after n zero h = refl
-after n (suc k) h = ap (movedAt n) (after n k (omega arith)) ∙ ap positionOf (at-record n k (omega arith))
+after n (suc k) h =
+    let on : recordStart (k + 1) ≡ recordStart (suc k) = omega arith in
+    ap (movedAt n) (after n k (omega arith)) ∙ ap positionOf (at-record n k (omega arith)) ∙ on
 
 -- past the last record the reader stands still
 stands : (n k : ℕ) → wholeRecords n ≤ k → afterTurns n k ≡ recordStart (wholeRecords n)

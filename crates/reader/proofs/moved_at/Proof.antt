@@ -2,6 +2,7 @@
 -- Assumes nothing.
 use mathlib.Core.Path.{sym, ap}
 use Prim.Native.Nat.{ℕ, _+_}
+use native.Mathlib.Omega.{arith}
 use lib.Dec.{ltb}
 use borrow.Author.Needs.{needs}
 use borrow.Author.Tests.{le-ltb, lt-ltb}
@@ -24,13 +25,13 @@ returns : tie.Need-returns
 returns c =
     let a = c .before .before .args in
     let l = c .before .left in
-    sym (rw (lt-ltb (l .result) recordBytes (c .if1 .taken)) at (ap (said (a .position)) (sym (l .ensures))))
+    sym (rw (lt-ltb (l .result) recordBytes (omega (arith, c .if1 .taken))) at (ap (said (a .position)) (sym (l .ensures))))
 
 returns-2 : tie.Need-returns-2
 returns-2 c =
     let a = c .before .before .args in
     let l = c .before .left in
-    sym (rw (le-ltb (l .result) recordBytes (c .if1 .left)) at (ap (said (a .position)) (sym (l .ensures))))
+    sym (rw (le-ltb (l .result) recordBytes (omega (arith, c .if1 .left))) at (ap (said (a .position)) (sym (l .ensures))))
 
 pub moved-at-spec : {M : Type 1} → statement M
 moved-at-spec = tie.close (tie.spec left-requires add-result returns returns-2)
