@@ -30,6 +30,17 @@ here n p h = rw (le-ltb (n - p) recordBytes (omega arith))
 none : (n p : ℕ) → n < p + recordBytes → turnAt n p ≡ record { found = End (n - p); position = p }
 none n p h = rw (lt-ltb (n - p) recordBytes (omega arith))
 
+-- what a loop that knows of a whole record at p knows of a turn t there
+module _ (n p : ℕ) (h : p + recordBytes ≤ n) (t : Turned) (e : t ≡ turnAt n p) where
+  pub found-here : {s : ℕ} → t .found ≡ Record s → s ≡ p
+  found-here f = ap numberIn (sym f ∙ ap foundOf (e ∙ here n p h))
+
+  pub moves-on : t .position ≡ p + recordBytes
+  moves-on = ap positionOf (e ∙ here n p h)
+
+  pub not-end : {l : ℕ} → t .found ≡ End l → ⊥
+  not-end f = false≢true (ap isRecord (sym f ∙ ap foundOf (e ∙ here n p h)))
+
 -- ---- one turn, where a record starts
 
 -- bytes left over, by the journal's length

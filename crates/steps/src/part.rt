@@ -4,6 +4,7 @@ use super::NOT_VALID;
 use super::Ran;
 use super::judge;
 use host::Host;
+use reader::Found;
 ghost use mathlib.Core.Path.{_≡_};
 ghost use mathlib.Core.List.{_∷_};
 ghost use Prim.Native.Nat.{_+_, _*_, _-_, _≤_};
@@ -15,7 +16,13 @@ ghost use Rattle.host.specs.View.{view};
 ghost use Rattle.steps.specs.Parts.{runnable, Runs};
 ghost use Rattle.steps.specs.Turns.{Turns, Plays, Stores};
 
-const RECORD: usize = 8;
+const RECORD: usize = reader::RECORD;
+
+// what a record counts among the accepted, and where the next one starts
+struct Moved {
+    counted: usize,
+    position: usize,
+}
 
 const ANSWER: usize = 8;
 
@@ -51,14 +58,35 @@ fn store(out: &mut [u8], i: usize, a: Answer) -> usize
     }
 }
 
-// The record at `at`, judged where it lies.
-fn turn(h: &mut Host, j: &[u8], at: usize, out: &mut [u8], i: usize) -> usize
+// The record that starts at `at`, judged where it lies; 1 if it is done.
+fn judge_at(h: &mut Host, j: &[u8], at: usize, out: &mut [u8], i: usize) -> usize
     requires record { ⌜ at + recordBytes ≤ length (now j) ⌝ }
     requires room { ⌜ answerBytes * i + answerBytes ≤ length (now out) ⌝ }
     ensures { λ r. ⌜ Turns (view (now (h .entry))) (now (j .entry)) at (now (out .entry)) i r (view (now (h .exit))) (now (out .exit)) ⌝ }
 {
     let a = judge(h, &j[at..at + RECORD]);
     store(out, i, a)
+}
+
+// The reader finds the record at `at`, and moves on.
+fn turn(h: &mut Host, j: &[u8], at: usize, out: &mut [u8], i: usize) -> Moved
+    requires record { ⌜ at + recordBytes ≤ length (now j) ⌝ }
+    requires room { ⌜ answerBytes * i + answerBytes ≤ length (now out) ⌝ }
+    ensures { λ r. ⌜ (r .position ≡ at + recordBytes) × Turns (view (now (h .entry))) (now (j .entry)) at (now (out .entry)) i (r .counted) (view (now (h .exit))) (now (out .exit)) ⌝ }
+{
+    let turned = reader::turn(j, at);
+    let found = turned.found;
+    let position = turned.position;
+    match found {
+        Found::Record(start) => {
+            let counted = judge_at(h, j, start, out, i);
+            Moved { counted, position }
+        }
+        Found::End(_) => Moved {
+            counted: 0,
+            position,
+        },
+    }
 }
 
 fn play(h: &mut Host, j: &[u8], start: usize, out: &mut [u8], n: usize) -> usize
@@ -69,8 +97,9 @@ fn play(h: &mut Host, j: &[u8], start: usize, out: &mut [u8], n: usize) -> usize
     let mut accepted = 0;
     let mut at = start;
     for i in 0..n {
-        accepted = accepted + turn(h, j, at, out, i);
-        at = at + RECORD;
+        let moved = turn(h, j, at, out, i);
+        accepted = accepted + moved.counted;
+        at = moved.position;
     }
     accepted
 }

@@ -33,10 +33,7 @@ turn-requires c κs =
 
 add-accepted : tie.Need-add-accepted Inv-loop μ-loop
 add-accepted c =
-    let r = turned-most (c .before .before .turn .ensures) in omega arith
-
-add-at : tie.Need-add-at Inv-loop μ-loop
-add-at c = omega arith
+    let r = turned-most (c .before .before .before .turn .ensures .1) in omega arith
 
 add-i : tie.Need-add-i Inv-loop μ-loop
 add-i c = omega arith
@@ -46,14 +43,14 @@ loop-less c = omega arith
 
 loop-again : tie.Need-loop-again Inv-loop μ-loop
 loop-again c =
-    let t = c .before .before in
+    let t = c .before .before .before in
     let l = t .before .before .before .before in
     let a = l .before .before .before .args in
-    let r = turned-most (t .turn .ensures) in (
+    let r = turned-most (t .turn .ensures .1) in (
       omega arith,
+      omega (arith, t .turn .ensures .0),
       omega arith,
-      omega arith,
-      one-more (view (a .h .now)) (a .j .now) (a .start) (a .out .now) (omega arith) (l .loop .inv .3) (l .loop .inv .1) (t .turn .ensures),
+      one-more (view (a .h .now)) (a .j .now) (a .start) (a .out .now) (omega arith) (l .loop .inv .3) (l .loop .inv .1) (t .turn .ensures .1),
     )
 
 same-length : tie.Need-same-length Inv-loop μ-loop
@@ -79,7 +76,6 @@ play-spec =
     loop-holds
     turn-requires
     add-accepted
-    add-at
     add-i
     loop-less
     loop-again

@@ -1,31 +1,32 @@
--- The part is the record where it lies.
+-- The reader finds the record that is there, and never the end.
 -- Assumes nothing.
-use Prim.Native.Nat.{_+_, _-_}
+use mathlib.Core.Path.{subst}
+use Prim.Native.Nat.{ℕ}
 use native.Mathlib.Omega.{arith}
-use Rattle.model.specs.Sizes.{recordBytes}
+use lib.ListN.{length}
 use Rattle.host.specs.View.{view}
-use Rattle.steps.proofs.Running.{turned}
+use Rattle.reader.proofs.Turns.{found-here, moves-on, not-end}
+use Rattle.steps.specs.Turns.{Turns}
 use borrow.Author.Needs.{needs}
 use Rattle.steps.proofs.part.turn.Statement.{statement}
 use Rattle.steps.proofs.part.turn.Tie as tie
 
-add-judge : tie.Need-add-judge
-add-judge c = search needs
+turn-requires : tie.Need-turn-requires
+turn-requires c κs = search needs
 
-sub-judge : tie.Need-sub-judge
-sub-judge c = search needs
+enum-known-found : tie.Need-enum-known-found
+enum-known-found c = search needs
 
-part-judge-start : tie.Need-part-judge-start
-part-judge-start c = search needs
+judge-at-requires : tie.Need-judge-at-requires
+judge-at-requires c κs =
+    let f = c .before .before .before in
+    let t = f .before .before in
+    let a = t .before .before .before .args in
+    let e = found-here (length (a .j .now)) (a .at) (omega arith) (t .turn .result) (t .turn .ensures) (f .found .given .1) in
+    (omega arith, omega arith)
 
-part-judge-end : tie.Need-part-judge-end
-part-judge-end c = search needs
-
-judge-requires : tie.Need-judge-requires
-judge-requires c κs = search needs
-
-store-requires : tie.Need-store-requires
-store-requires c κs = search needs
+enum-told : tie.Need-enum-told
+enum-told c = search needs
 
 same-length : tie.Need-same-length
 same-length c = search needs
@@ -33,19 +34,29 @@ same-length c = search needs
 returns : tie.Need-returns
 returns c =
     let w = c .before .before in
-    let g = w .before .before in
-    let a = g .before .before .before .before .before .args in
-    turned (view (a .h .now)) (a .j .now) (a .at) (a .out .now) (a .i) (a .at + recordBytes - a .at) (omega arith) (g .judge .ensures) (w .store .ensures)
+    let f = w .before .before .before .before in
+    let t = f .before .before in
+    let a = t .before .before .before .args in
+    let n = length (a .j .now) in (
+      moves-on n (a .at) (omega arith) (t .turn .result) (t .turn .ensures),
+      subst (λ (p : ℕ). Turns (view (a .h .now)) (a .j .now) p (a .out .now) (a .i) (w .judge-at .result) (view (w .judge-at .last .0)) (w .judge-at .last .1 .1 .1 .0))
+          (found-here n (a .at) (omega arith) (t .turn .result) (t .turn .ensures) (f .found .given .1)) (w .judge-at .ensures),
+    )
+
+returns-2 : tie.Need-returns-2
+returns-2 c =
+    let t = c .before .before in
+    let a = t .before .before .before .args in
+    absurd (not-end (length (a .j .now)) (a .at) (omega arith) (t .turn .result) (t .turn .ensures) (c .enum-told .given .1))
 
 pub turn-spec : {M : Type 1} → statement M
 turn-spec =
     tie.close
     (tie.spec
-    add-judge
-    sub-judge
-    part-judge-start
-    part-judge-end
-    judge-requires
-    store-requires
+    turn-requires
+    enum-known-found
+    judge-at-requires
+    enum-told
     same-length
-    returns)
+    returns
+    returns-2)
