@@ -3,6 +3,7 @@ mod part; // part.rt: the run over records that lie one after another
 mod perform; // perform.rt: what an action does, and what it answers
 
 use host::Host;
+pub use part::ANSWER;
 pub use part::run;
 use perform::perform;
 use records::Action;

@@ -24,7 +24,7 @@ struct Moved {
     position: usize,
 }
 
-const ANSWER: usize = 8;
+pub const ANSWER: usize = 8;
 
 // Number, three zeros, value low byte first.
 fn put(out: &mut [u8], at: usize, n: u8, v: u32)
