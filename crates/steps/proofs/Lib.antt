@@ -2,3 +2,4 @@ pub mod Pages
 pub mod Judging
 pub mod Storing
 pub mod Running
+pub mod Answers

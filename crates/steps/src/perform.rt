@@ -11,15 +11,23 @@ ghost use Rattle.model.specs.Write.{writeStep};
 ghost use Rattle.model.specs.NewSm.{newSmStep};
 ghost use Rattle.model.specs.Unpin.{unpinStep};
 ghost use Rattle.host.specs.View.{view};
+ghost use Rattle.host.specs.Lead.{toward};
 ghost use Rattle.acts.specs.Mapped.{created};
 ghost use Rattle.asks.specs.Actions.{actionFrom};
 ghost use Rattle.steps.specs.Acting.{onPage};
 ghost use Rattle.steps.specs.Promises.{Performs};
 
+// Where an address leads: by the table in force. The TLB is not asked, so no old translation is followed.
+fn led(h: &Host, a: Va) -> Lead
+    ensures { λ r. ⌜ r ≡ toward (mapped (view (now (h .entry)) .shape) (a .0)) ⌝ }
+{
+    asks::mapped(h, a)
+}
+
 fn read(h: &mut Host, a: Va) -> u32
     ensures { λ r. ⌜ Performs (view (now (h .entry))) (model.read (a .0)) r (view (now (h .exit))) ⌝ }
 {
-    let l = asks::mapped(h, a);
+    let l = led(h, a);
     match l {
         Lead::To(p) => {
             let v = cache::present(h, p);
@@ -33,7 +41,7 @@ fn read(h: &mut Host, a: Va) -> u32
 fn write(h: &mut Host, a: Va, v: u32)
     ensures { λ _. ⌜ view (now (h .exit)) ≡ onPage (mapped (view (now (h .entry)) .shape) (a .0)) (λ p. writeStep (view (now (h .entry))) (a .0) p v) (view (now (h .entry))) ⌝ }
 {
-    let l = asks::mapped(h, a);
+    let l = led(h, a);
     match l {
         Lead::To(p) => acts::write::write(h, a, p, v),
         Lead::Nowhere => {}

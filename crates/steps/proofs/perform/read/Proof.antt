@@ -9,8 +9,8 @@ use borrow.Author.Needs.{needs}
 use Rattle.steps.proofs.perform.read.Statement.{statement}
 use Rattle.steps.proofs.perform.read.Tie as tie
 
-mapped-requires : tie.Need-mapped-requires
-mapped-requires c κs = search needs
+led-requires : tie.Need-led-requires
+led-requires c κs = search needs
 
 enum-known-l : tie.Need-enum-known-l
 enum-known-l c = search needs
@@ -34,8 +34,8 @@ returns c =
     let s = view (a .h .now) in
     let m = mapped (s .shape) (a .a .0) in
     record {
-      value = there m (q .mapped .result) (q .mapped .ensures) (present s) 0 (l .l .given .0 .0) (l .l .given .1) _ (v .present .ensures);
-      state = there m (q .mapped .result) (q .mapped .ensures) (readStep s (a .a .0)) s (l .l .given .0 .0) (l .l .given .1) _ (c .read .ensures);
+      value = there m (q .led .result) (q .led .ensures) (present s) 0 (l .l .given .0 .0) (l .l .given .1) _ (v .present .ensures);
+      state = there m (q .led .result) (q .led .ensures) (readStep s (a .a .0)) s (l .l .given .0 .0) (l .l .given .1) _ (c .read .ensures);
     }
 
 returns-2 : tie.Need-returns-2
@@ -46,15 +46,15 @@ returns-2 c =
     let s = view (a .h .now) in
     let m = mapped (s .shape) (a .a .0) in
     record {
-      value = nowhere-there m (q .mapped .result) (q .mapped .ensures) (present s) 0 (c .enum-told .given .1);
-      state = nowhere-there m (q .mapped .result) (q .mapped .ensures) (readStep s (a .a .0)) s (c .enum-told .given .1);
+      value = nowhere-there m (q .led .result) (q .led .ensures) (present s) 0 (c .enum-told .given .1);
+      state = nowhere-there m (q .led .result) (q .led .ensures) (readStep s (a .a .0)) s (c .enum-told .given .1);
     }
 
 pub read-spec : {M : Type 1} → statement M
 read-spec =
     tie.close
     (tie.spec
-    mapped-requires
+    led-requires
     enum-known-l
     present-requires
     read-requires
