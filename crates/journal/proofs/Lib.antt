@@ -1,3 +1,4 @@
 pub mod Header
 pub mod Limits
 pub mod Reports
+pub mod Answers
