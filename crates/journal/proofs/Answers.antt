@@ -45,7 +45,7 @@ refused-bytes j b n {x} {y} h k p =
 
 -- ---- the report
 
-abbrev reportIn : Verdict → Report
+abbrev pub reportIn : Verdict → Report
 reportIn (Done r) = r
 reportIn (Refused n) = reportTo zeroReport
 

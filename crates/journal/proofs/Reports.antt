@@ -47,8 +47,23 @@ abbrev numberIn : Ran → ℕ
 numberIn (Took n k) = 0
 numberIn (code.Refused m) = m
 
-abbrev form : List ℕ → List ℕ → ℕ
+abbrev pub form : List ℕ → List ℕ → ℕ
 form j b = formRefusal (hasHeader j) (length j) (length b)
+
+pub form-header : (j b : List ℕ) → form j b ≡ 0 → hasHeader j ≡ true
+form-header j b e =
+    split (hasHeader j) (λ h. h) (λ h. let f = no-journal (hasHeader j) (length j) (length b) h in absurd (omega arith))
+
+-- what has no refusal by its form: header, limit and room
+pub form-fits : (j b : List ℕ) → form j b ≡ 0 → (headerBytes ≤ length j) × (wholeRecords (length j) ≤ recordLimit) × (answerBytes * wholeRecords (length j) ≤ length b)
+form-fits j b e =
+    let h = form-header j b e in
+    let k = header⇔ j .0 h .0 in
+    below? recordLimit (wholeRecords (length j))
+    (λ q. let f = too-long (hasHeader j) (length j) (length b) h q in absurd (omega arith))
+    (λ q. below? (length b) (answerBytes * wholeRecords (length j))
+    (λ r. let f = no-room (hasHeader j) (length j) (length b) h q r in absurd (omega arith))
+    (λ r. (k, q, r)))
 
 module _ (s : State) (j b : List ℕ) where
   refusal-valid : valid? s ≡ true → journalRefusal s j b ≡ form j b
@@ -58,6 +73,15 @@ module _ (s : State) (j b : List ℕ) where
   refusal-invalid : valid? s ≡ false → journalRefusal s j b ≡ 1
   unfolding journalRefusal
   refusal-invalid e = rw e
+
+  -- no refusal at all: of the state and of the form
+  pub no-refusal : journalRefusal s j b ≡ 0 → (valid? s ≡ true) × (form j b ≡ 0)
+  no-refusal e =
+      split (valid? s) (λ v. (v, sym (refusal-valid v) ∙ e)) (λ v. let f = refusal-invalid v in absurd (omega arith))
+
+  pub played-journal : valid? s ≡ true → form j b ≡ 0 → journal s j b ≡ played (run s (recordsOf j)) j b
+  played-journal v e =
+      either (λ (a : After). a ≡ played (run s (recordsOf j)) j b) s j b (λ q. refl) (λ q. absurd (q (refusal-valid v ∙ e)))
 
   -- ---- turned away
 
@@ -81,19 +105,8 @@ module _ (s : State) (j b : List ℕ) where
 
   -- ---- run
 
-  pub form-fits : form j b ≡ 0 → (headerBytes ≤ length j) × (wholeRecords (length j) ≤ recordLimit) × (answerBytes * wholeRecords (length j) ≤ length b)
-  form-fits e =
-      split (hasHeader j)
-      (λ h. let k = header⇔ j .0 h .0 in
-      below? recordLimit (wholeRecords (length j))
-      (λ q. let f = too-long (hasHeader j) (length j) (length b) h q in absurd (omega arith))
-      (λ q. below? (length b) (answerBytes * wholeRecords (length j))
-      (λ r. let f = no-room (hasHeader j) (length j) (length b) h q r in absurd (omega arith))
-      (λ r. (k, q, r))))
-      (λ h. let f = no-journal (hasHeader j) (length j) (length b) h in absurd (omega arith))
-
   pub all-runnable : form j b ≡ 0 → runnable j headerBytes b ≡ taken j
-  all-runnable e = let f = form-fits e in sym (whole-runnable j headerBytes b (omega arith))
+  all-runnable e = let f = form-fits j b e in sym (whole-runnable j headerBytes b (omega arith))
 
   module _ (e : form j b ≡ 0) where
     abbrev played-records : model.Ran
@@ -102,16 +115,12 @@ module _ (s : State) (j b : List ℕ) where
     same-records : recordsFrom j headerBytes (runnable j headerBytes b) ≡ recordsOf j
     same-records = ap (recordsFrom j headerBytes) (all-runnable e)
 
-    played-journal : valid? s ≡ true → journal s j b ≡ played (run s (recordsOf j)) j b
-    played-journal v =
-        either (λ (a : After). a ≡ played (run s (recordsOf j)) j b) s j b (λ q. refl) (λ q. absurd (q (refusal-valid v ∙ e)))
-
     abbrev answers : List Answer
     answers = run s (recordsOf j) .answers
 
     refused-rest : valid? s ≡ true → taken j - acceptedIn answers ≡ refusedIn answers
     refused-rest v =
-        let q = ap (λ (a : After). reportOf (a .verdict)) (played-journal v) in
+        let q = ap (λ (a : After). reportOf (a .verdict)) (played-journal v e) in
         let r : acceptedIn answers + refusedIn answers ≡ taken j =
         subst (λ (x : Report). x .accepted + x .refused ≡ x .taken) q (accepted-and-refused s j b) in
         omega arith
@@ -142,7 +151,7 @@ module _ (s : State) (j b : List ℕ) where
           let q = sym f ∙ took v in
           let n = ap takenIn q in
           let k = ap acceptedOf q in
-          let z = ap (λ (a : After). reportOf (a .verdict)) (played-journal v) in
+          let z = ap (λ (a : After). reportOf (a .verdict)) (played-journal v e) in
           let y : acceptedIn answers + refusedIn answers ≡ taken j =
           subst (λ (x : Report). x .accepted + x .refused ≡ x .taken) z (accepted-and-refused s j b) in
           (n, omega arith)
@@ -152,7 +161,7 @@ module _ (s : State) (j b : List ℕ) where
       ran-took {n} {k} {l} f g =
           let v = valid-if f in
           let p = sym f ∙ took v in
-          let q = sym (played-journal v) in
+          let q = sym (played-journal v e) in
           let d : (n - k) ≡ refusedIn answers = (λ i. ap takenIn p i - ap acceptedOf p i) ∙ refused-rest v in
           record {
             verdict =

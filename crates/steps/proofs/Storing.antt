@@ -73,12 +73,12 @@ module _ (l : List ℕ) (a n v : ℕ) where
 
 -- ---- answers one after another
 
-written-more : (xs ys : List Answer) → written (xs ++ ys) ≡ written xs ++ written ys
+pub written-more : (xs ys : List Answer) → written (xs ++ ys) ≡ written xs ++ written ys
 written-more [] ys = refl
 written-more (x ∷ xs) ys =
     ap (λ (l : List ℕ). answerBytesOf x ++ l) (written-more xs ys) ∙ sym (append-assoc (answerBytesOf x) (written xs) (written ys))
 
-length-written : (xs : List Answer) → length (written xs) ≡ answerBytes * length xs
+pub length-written : (xs : List Answer) → length (written xs) ≡ answerBytes * length xs
 length-written [] = refl
 length-written (x ∷ xs) = let e = length-written xs in omega arith
 

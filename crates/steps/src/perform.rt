@@ -30,9 +30,9 @@ fn read(h: &mut Host, a: Va) -> u32
     let l = led(h, a);
     match l {
         Lead::To(p) => {
-            let v = cache::present(h, p);
+            let value = cache::present(h, p);
             acts::read::read(h, a, p);
-            v
+            value
         }
         Lead::Nowhere => 0,
     }

@@ -54,7 +54,7 @@ left-over-requires c κs =
     let a = n .before .before .before .args in
     let s = view (a .h .now) in
     let z = sym (n .form-refusal .ensures) ∙ f .if1 .left in
-    (took-taken s (a .j .now) (a .out .now) z (r .run .ensures) (d .ran .given .1) .0, form-fits s (a .j .now) (a .out .now) z .0)
+    (took-taken s (a .j .now) (a .out .now) z (r .run .ensures) (d .ran .given .1) .0, form-fits (a .j .now) (a .out .now) z .0)
 
 enum-known-ran-2 : tie.Need-enum-known-ran-2
 enum-known-ran-2 c = search needs
