@@ -1,5 +1,8 @@
 -- Each arm answers for the test that it is named by.
 -- Assumes nothing.
+use mathlib.Core.Path.{sym, ap, _∙_}
+use Rattle.host.specs.View.{view}
+use Rattle.rules.specs.declared.EntryTest.{EntryTest}
 use Rattle.rules.specs.Places.{entryTest}
 use borrow.Author.Needs.{needs}
 use Rattle.rules.proofs.entries.entry_passes.Statement.{statement}
@@ -19,11 +22,15 @@ entry-in-range-requires c κs = search needs
 
 returns : tie.Need-returns
 unfolding entryTest
-returns c = cc
+returns c =
+    let a = c .before .before .before .args in
+    c .own .ensures ∙ ap (λ (t : EntryTest). entryTest t (view (a .h .now)) (a .m .0) (a .a .0)) (sym (c .before .enum-told .given .1))
 
 returns-2 : tie.Need-returns-2
 unfolding entryTest
-returns-2 c = cc
+returns-2 c =
+    let a = c .before .before .before .args in
+    c .entry-in-range .ensures ∙ ap (λ (t : EntryTest). entryTest t (view (a .h .now)) (a .m .0) (a .a .0)) (sym (c .before .enum-told2 .given .1))
 
 pub entry-passes-spec : {M : Type 1} → statement M
 entry-passes-spec =

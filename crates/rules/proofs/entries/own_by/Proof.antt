@@ -28,7 +28,7 @@ owner-requires-2 c κs = search needs
 
 returns : tie.Need-returns
 unfolding ownBy sought
-returns c = cc
+returns c = rw (c .owner2 .ensures, c .before .kind2 .ensures, c .before .before .reserved-address .ensures, c .before .before .before .kind .ensures, c .before .before .before .before .owner .ensures)
 
 pub own-by-spec : {M : Type 1} → statement M
 own-by-spec =

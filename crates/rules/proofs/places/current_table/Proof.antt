@@ -39,7 +39,7 @@ unfolding currentTable
 returns c =
     let a = c .before .before .before .before .before .before .before .before .args in
     let s = view (a .h .now) in
-    cc (number-lead (at (s .shape .pages .physical) (physicals * a .g .0 + at (s .shape .guests .current) (a .g .0))))
+    rw (c .before .owner .ensures, c .before .before .kind .ensures, c .before .before .before .before .before .number-of .ensures, c .before .before .before .before .before .before .physical .ensures, c .before .before .before .before .before .before .before .current .ensures, number-lead (at (s .shape .pages .physical) (physicals * a .g .0 + at (s .shape .guests .current) (a .g .0))))
 
 pub current-table-spec : {M : Type 1} → statement M
 current-table-spec =

@@ -22,7 +22,7 @@ add-result c = search needs
 
 returns : tie.Need-returns
 unfolding heldBy sought
-returns c = cc
+returns c = rw (c .before .owner .ensures, c .before .before .some .ensures)
 
 pub held-by-spec : {M : Type 1} → statement M
 held-by-spec =

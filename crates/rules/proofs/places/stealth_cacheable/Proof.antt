@@ -30,7 +30,7 @@ unfolding stealthCacheable
 returns c =
     let a = c .before .before .before .before .before .before .args in
     let s = view (a .h .now) in
-    cc (number-lead (at (s .shape .pages .entry) (addresses * a .m .0 + stealth)))
+    rw (c .implies .ensures, c .before .cacheable .ensures, c .before .before .before .kind .ensures, c .before .before .before .before .number-of .ensures, c .before .before .before .before .before .entry .ensures, number-lead (at (s .shape .pages .entry) (addresses * a .m .0 + stealth)))
 
 pub stealth-cacheable-spec : {M : Type 1} → statement M
 stealth-cacheable-spec =

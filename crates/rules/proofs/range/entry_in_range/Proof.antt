@@ -23,7 +23,7 @@ returns : tie.Need-returns
 unfolding entryInRange
 returns c =
     let a = c .before .before .before .args in
-    cc (placed-is (at (view (a .h .now) .shape .pages .entry) (addresses * a .m .0 + a .a .0)))
+    rw (c .placed-at .ensures, c .before .entry-empty .ensures, c .before .before .entry .ensures, placed-is (at (view (a .h .now) .shape .pages .entry) (addresses * a .m .0 + a .a .0)))
 
 pub entry-in-range-spec : {M : Type 1} → statement M
 entry-in-range-spec =

@@ -22,7 +22,7 @@ fits-call-requires c κs = search needs
 
 returns : tie.Need-returns
 unfolding guestInRange
-returns c = cc
+returns c = rw (c .fits-call .ensures, c .before .before .call-b .ensures, c .before .before .before .call-a .ensures, c .before .before .before .before .call .ensures, c .before .before .before .before .before .current .ensures)
 
 pub guest-in-range-spec : {M : Type 1} → statement M
 guest-in-range-spec =

@@ -32,7 +32,7 @@ returns : tie.Need-returns
 unfolding lineInRange
 returns c =
     let a = c .before .before .before .before .before .before .before .before .args in
-    cc (placed-is (at (view (a .h .now) .shape .cache .linePage) (a .i)))
+    rw (c .before .implies .ensures, c .before .before .line-value .ensures, c .before .before .before .before .placed-at .ensures, c .before .before .before .before .before .line-page .ensures, c .before .before .before .before .before .before .line-empty .ensures, c .before .before .before .before .before .before .before .line-address .ensures, placed-is (at (view (a .h .now) .shape .cache .linePage) (a .i)))
 
 pub line-in-range-spec : {M : Type 1} → statement M
 line-in-range-spec =

@@ -25,7 +25,7 @@ cacheable-requires c κs = search needs
 
 returns : tie.Need-returns
 unfolding pageInRange
-returns c = cc
+returns c = rw (c .cacheable .ensures, c .before .kind .ensures, c .before .before .owner .ensures)
 
 pub page-in-range-spec : {M : Type 1} → statement M
 page-in-range-spec =

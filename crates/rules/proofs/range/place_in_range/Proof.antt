@@ -23,7 +23,7 @@ returns : tie.Need-returns
 unfolding placeInRange
 returns c =
     let a = c .before .before .before .args in
-    cc (placed-is (at (view (a .h .now) .shape .pages .physical) (physicals * (a .i / physicals) + a .i % physicals)))
+    rw (c .placed-at .ensures, c .before .physical-empty .ensures, c .before .before .physical .ensures, placed-is (at (view (a .h .now) .shape .pages .physical) (physicals * (a .i / physicals) + a .i % physicals)))
 
 pub place-in-range-spec : {M : Type 1} → statement M
 place-in-range-spec =

@@ -29,7 +29,7 @@ returns : tie.Need-returns
 unfolding slotInRange
 returns c =
     let a = c .before .before .before .before .before .before .before .args in
-    cc (placed-is (at (view (a .h .now) .shape .tlb .slotPage) (a .i)))
+    rw (c .before .implies .ensures, c .before .before .before .placed-at .ensures, c .before .before .before .before .slot-page .ensures, c .before .before .before .before .before .slot-empty .ensures, c .before .before .before .before .before .before .slot-address .ensures, placed-is (at (view (a .h .now) .shape .tlb .slotPage) (a .i)))
 
 pub slot-in-range-spec : {M : Type 1} → statement M
 slot-in-range-spec =

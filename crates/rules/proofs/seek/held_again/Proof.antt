@@ -16,7 +16,7 @@ implies-requires c κs = search needs
 
 returns : tie.Need-returns
 unfolding sought
-returns c = cc
+returns c = rw (c .implies .ensures, c .before .before .leads-at .ensures, c .before .before .before .physical .ensures)
 
 pub held-again-spec : {M : Type 1} → statement M
 held-again-spec = tie.close (tie.spec physical-requires leads-at-requires implies-requires returns)

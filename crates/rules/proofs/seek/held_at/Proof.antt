@@ -1,4 +1,4 @@
--- Each test is of what was read.
+-- What was read is tested.
 -- Assumes nothing.
 use Rattle.rules.specs.Places.{sought}
 use borrow.Author.Needs.{needs}
@@ -13,7 +13,7 @@ leads-at-requires c κs = search needs
 
 returns : tie.Need-returns
 unfolding sought
-returns c = cc
+returns c = rw (c .leads-at .ensures, c .before .physical .ensures)
 
 pub held-at-spec : {M : Type 1} → statement M
 held-at-spec = tie.close (tie.spec physical-requires leads-at-requires returns)

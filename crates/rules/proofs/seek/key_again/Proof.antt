@@ -19,7 +19,7 @@ implies-requires c κs = search needs
 
 returns : tie.Need-returns
 unfolding sought
-returns c = cc
+returns c = rw (c .implies .ensures, c .before .before .before .line-address .ensures, c .before .before .before .before .leads-at .ensures, c .before .before .before .before .before .line-page .ensures)
 
 pub key-again-spec : {M : Type 1} → statement M
 key-again-spec =

@@ -16,7 +16,7 @@ kind-requires c κs = search needs
 
 returns : tie.Need-returns
 unfolding sought
-returns c = cc
+returns c = rw (c .kind .ensures, c .before .leads-at .ensures, c .before .before .entry .ensures)
 
 pub maps-at-spec : {M : Type 1} → statement M
 maps-at-spec = tie.close (tie.spec entry-requires leads-at-requires kind-requires returns)

@@ -1,5 +1,9 @@
 -- Each arm answers for the search that it is named by.
 -- Assumes nothing.
+use mathlib.Core.Path.{sym, ap, _∙_}
+use Rattle.host.specs.View.{view}
+use Rattle.rules.specs.declared.Sought.{Sought}
+use Rattle.rules.specs.Places.{sought}
 use borrow.Author.Needs.{needs}
 use Rattle.rules.proofs.seek.seeks.Statement.{statement}
 use Rattle.rules.proofs.seek.seeks.Tie as tie
@@ -29,16 +33,16 @@ key-again-requires : tie.Need-key-again-requires
 key-again-requires c κs = search needs
 
 returns : tie.Need-returns
-returns c = cc
+returns c = c .held-again .ensures ∙ ap (λ (t : Sought). sought t (view (c .before .before .before .before .args .h .now)) (c .before .before .before .before .args .i)) (sym (c .before .before .t .given .1))
 
 returns-2 : tie.Need-returns-2
-returns-2 c = cc
+returns-2 c = c .held-at .ensures ∙ ap (λ (t : Sought). sought t (view (c .before .before .before .before .args .h .now)) (c .before .before .before .before .args .i)) (sym (c .before .before .t2 .given .1))
 
 returns-3 : tie.Need-returns-3
-returns-3 c = cc
+returns-3 c = c .maps-at .ensures ∙ ap (λ (t : Sought). sought t (view (c .before .before .before .before .args .h .now)) (c .before .before .before .before .args .i)) (sym (c .before .before .t3 .given .1))
 
 returns-4 : tie.Need-returns-4
-returns-4 c = cc
+returns-4 c = c .key-again .ensures ∙ ap (λ (t : Sought). sought t (view (c .before .before .before .before .args .h .now)) (c .before .before .before .before .args .i)) (sym (c .before .before .t4 .given .1))
 
 pub seeks-spec : {M : Type 1} → statement M
 seeks-spec =
