@@ -6,10 +6,10 @@ use native.Mathlib.Nat.{one-le-pow}
 use native.Mathlib.Omega.{arith}
 use lib.Dec.{eqb}
 use Rattle.laws.specs.Bits.{bit}
-use Rattle.host.proofs.Marks.{marks-past}
+use Rattle.marks.proofs.Numbers.{marks-past}
 use borrow.Author.Needs.{needs}
-use Rattle.host.proofs.values.is_marked.Statement.{statement}
-use Rattle.host.proofs.values.is_marked.Tie as tie
+use Rattle.marks.proofs.is_marked.Statement.{statement}
+use Rattle.marks.proofs.is_marked.Tie as tie
 
 one-bit-requires : tie.Need-one-bit-requires
 one-bit-requires c κs = search needs

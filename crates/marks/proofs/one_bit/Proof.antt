@@ -1,9 +1,9 @@
 -- The shift loses nothing.
 -- Assumes nothing.
-use Rattle.host.proofs.Marks.{one-shift}
+use Rattle.marks.proofs.Numbers.{one-shift}
 use borrow.Author.Needs.{needs}
-use Rattle.host.proofs.values.one_bit.Statement.{statement}
-use Rattle.host.proofs.values.one_bit.Tie as tie
+use Rattle.marks.proofs.one_bit.Statement.{statement}
+use Rattle.marks.proofs.one_bit.Tie as tie
 
 shl-result : tie.Need-shl-result
 shl-result c = search needs

@@ -5,19 +5,14 @@ use mathlib.Core.Bool.{true, false, true≢false}
 use Prim.Native.Nat.{ℕ, _+_, _-_, _*_, _%_, _^_, _≤_, _<_}
 use native.Mathlib.Nat.{mod-eq-of-lt, one-mul, lt-of-lt-of-le}
 use native.Mathlib.Omega.{arith}
-use lib.Count.{trailingZeros}
 use lib.Pow.{pow-lt, pow-mono}
 use borrow.Author.Tests.{eqb-true, eqb-false, ne-eqb, lt-ltb, le-ltb}
 use Rattle.laws.specs.Choice.{pick}
 use Rattle.laws.specs.Bits.{bit, marks, marked, unmarked}
 use Rattle.laws.proofs.Cases.{below?, pick-yes, pick-not}
-use Rattle.laws.proofs.Bits.{bit-two, bit-le, bit-past, marked-new, marked-below, unmarked-old, trailing-lowest}
+use Rattle.laws.proofs.Bits.{bit-two, bit-le, bit-past, marked-new, marked-below, unmarked-old}
 use Rattle.model.specs.Sizes.{pages}
 use Rattle.model.specs.State.{isPage}
-use Rattle.model.specs.Checks.{lowestFree}
-use Rattle.host.specs.declared.Lead.the-variants.{To, Nowhere}
-use Rattle.host.specs.Lead.{ma, toward}
-use Rattle.host.proofs.Leads.{toward-page, toward-none}
 
 pub one-shift : (n : ℕ) → n < pages → (1 * 2 ^ n) % 2 ^ pages ≡ 2 ^ n
 one-shift n h = rw one-mul (mod-eq-of-lt (pow-lt h))
@@ -63,13 +58,3 @@ without-old m n e = sym (unmarked-old m n (eqb-true (bit m n) 1 e))
 pub without-none : (m n : ℕ) → marks m n ≡ false → m ≡ unmarked m n
 unfolding unmarked
 without-none m n e = sym (pick-not (m - 2 ^ n) m e)
-
--- ---- the lowest mark, by trailing zeros
-
-pub lowest-page : (m : ℕ) → trailingZeros pages m < pages → To (ma (trailingZeros pages m)) ≡ toward (lowestFree m)
-unfolding lowestFree
-lowest-page m h = sym (toward-page (trailingZeros pages m) h) ∙ ap toward (trailing-lowest pages m)
-
-pub lowest-none : (m : ℕ) → pages ≤ trailingZeros pages m → Nowhere ≡ toward (lowestFree m)
-unfolding lowestFree
-lowest-none m h = sym (toward-none (trailingZeros pages m) h) ∙ ap toward (trailing-lowest pages m)

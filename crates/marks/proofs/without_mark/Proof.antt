@@ -3,10 +3,10 @@
 use mathlib.Core.Path.{sym, ap, _∙_}
 use Prim.Native.Nat.{ℕ, _-_}
 use native.Mathlib.Omega.{arith}
-use Rattle.host.proofs.Marks.{marks-page, marks-le, without-old, without-none}
+use Rattle.marks.proofs.Numbers.{marks-page, marks-le, without-old, without-none}
 use borrow.Author.Needs.{needs}
-use Rattle.host.proofs.values.without_mark.Statement.{statement}
-use Rattle.host.proofs.values.without_mark.Tie as tie
+use Rattle.marks.proofs.without_mark.Statement.{statement}
+use Rattle.marks.proofs.without_mark.Tie as tie
 
 is-marked-requires : tie.Need-is-marked-requires
 is-marked-requires c κs = search needs

@@ -3,10 +3,10 @@
 use mathlib.Core.Path.{sym, ap, _∙_}
 use Prim.Native.Nat.{ℕ, _+_}
 use native.Mathlib.Omega.{arith}
-use Rattle.host.proofs.Marks.{with-below, with-new, with-old, with-past}
+use Rattle.marks.proofs.Numbers.{with-below, with-new, with-old, with-past}
 use borrow.Author.Needs.{needs}
-use Rattle.host.proofs.values.with_mark.Statement.{statement}
-use Rattle.host.proofs.values.with_mark.Tie as tie
+use Rattle.marks.proofs.with_mark.Statement.{statement}
+use Rattle.marks.proofs.with_mark.Tie as tie
 
 is-marked-requires : tie.Need-is-marked-requires
 is-marked-requires c κs = search needs
