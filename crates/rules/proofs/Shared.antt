@@ -23,8 +23,9 @@ use Rattle.model.specs.Rules.{Maps, Rule6}
 use Rattle.model.specs.RuleTests.{rule6?}
 use Rattle.model.specs.Valid.{Sized}
 use Rattle.model.proofs.RuleTests.{lead-page, lead-holds, rule6⇔}
-use Rattle.rules.specs.Places.{counted, countedAt, unshared, stealthCacheable}
-use Rattle.rules.proofs.Loops.{agree}
+use Rattle.rules.specs.Tests.{counted, countedAt, unshared}
+use Rattle.places.specs.Places.{stealthCacheable}
+use Rattle.seek.proofs.Loops.{agree}
 
 -- all entries
 abbrev pub entries : ℕ

@@ -1,41 +1,32 @@
 // What rules 4 and 10 test at each entry: one pass over all tables.
 use super::EntryTest;
-use super::FIRST_RESERVED;
 use super::GUESTS;
-use super::KIND_DATA;
-use super::KIND_TABLE;
-use super::OWNER_GUEST;
 use super::PAGES;
-use super::SETS;
-use super::STEALTH;
-use super::STEALTH_SET;
-use super::range::entry_in_range;
-use super::seek::number_of;
+use host::CACHEABLE;
 use host::Host;
+use host::KIND_DATA;
+use host::KIND_TABLE;
 use host::Lead;
 use host::Ma;
+use host::OWNER_GUEST;
 use host::Va;
+use ranges::entry_in_range;
+use seek::number_of;
 ghost use mathlib.Core.Path.{_≡_};
 ghost use Prim.Native.Nat.{_+_, _*_, _/_, _%_, _<_};
 ghost use Rattle.laws.specs.Search.{allBelow};
-ghost use Rattle.model.specs.Sizes.{pages, addresses, reserved};
+ghost use Rattle.model.specs.Sizes.{pages, addresses};
 ghost use Rattle.host.specs.View.{view};
-ghost use Rattle.rules.specs.Places.{counted, unshared, ownBy, ownAt, entryTest};
-
-pub(crate) fn reserved_address(a: Va) -> bool
-    ensures { λ r. ⌜ r ≡ reserved (a .0) ⌝ }
-{
-    (a.0 >= FIRST_RESERVED) | ((a.0 % SETS == STEALTH_SET) & !(a.0 == STEALTH))
-}
+ghost use Rattle.rules.specs.Tests.{counted, unshared, ownBy, ownAt, entryTest};
 
 pub(crate) fn own_by(h: &Host, m: Ma, a: Va, p: Ma) -> bool
     ensures { λ r. ⌜ r ≡ ownBy (view (now (h .entry))) (m .0) (a .0) (p .0) ⌝ }
 {
     let o = host::owner(h, m);
     (host::kind(h, m) == KIND_TABLE)
-        & !reserved_address(a)
+        & !asks::reserved(a)
         & (host::kind(h, p) == KIND_DATA)
-        & (o < OWNER_GUEST as u8 + GUESTS)
+        & (o < OWNER_GUEST + GUESTS)
         & (host::owner(h, p) == o)
 }
 
@@ -81,7 +72,7 @@ fn counted_page(h: &Host, m: Ma, a: Va) -> Ma
     if (host::kind(h, m) == KIND_TABLE)
         & (p.0 < PAGES)
         & (host::kind(h, p) == KIND_DATA)
-        & (host::cacheable(h, p) == 1)
+        & (host::cacheable(h, p) == CACHEABLE)
     {
         p
     } else {

@@ -1,33 +1,25 @@
 // The test of validity: a function for each rule of docs/RULES.md.
 mod entries;
-mod places;
-mod range;
-mod seek;
 
 use entries::all_entries;
 use entries::no_page_shared;
 use host::Guest;
 use host::Host;
 use host::Ma;
-use host::Pa;
-use host::Va;
+use lines::line;
+use lines::slot;
 use places::call_kept;
 use places::current_table;
-use places::first_way;
 use places::held;
-use places::line;
 use places::page_kept;
 use places::registered;
-use places::slot;
 use places::stealth_cacheable;
-use places::stealth_page;
-use places::table_in_force;
-use range::guest_in_range;
-use range::line_in_range;
-use range::page_in_range;
-use range::place_in_range;
-use range::set_in_range;
-use range::slot_in_range;
+use ranges::guest_in_range;
+use ranges::line_in_range;
+use ranges::page_in_range;
+use ranges::place_in_range;
+use ranges::set_in_range;
+use ranges::slot_in_range;
 ghost use mathlib.Core.Path.{_≡_};
 ghost use Prim.Native.Nat.{_+_, _*_, _<_};
 ghost use Rattle.laws.specs.Search.{allBelow};
@@ -35,55 +27,19 @@ ghost use Rattle.model.specs.State.{table};
 ghost use Rattle.model.specs.RuleTests.{rule1?, rule2?, rule8?, rule9?, rule10?, rule3?, rule4?, rule5?, rule6?, rule7?};
 ghost use Rattle.model.specs.Valid.{valid?};
 ghost use Rattle.host.specs.View.{view};
-ghost use Rattle.rules.specs.Places.{test};
+ghost use Rattle.rules.specs.Tests.{test};
 
 const GUESTS: u8 = host::GUESTS as u8;
 
-const ADDRESSES: u8 = host::ADDRESSES as u8;
-
-const FIRST_RESERVED: u8 = 48;
-
-const STEALTH: u8 = 7;
-
-const STEALTH_SET: u8 = 7;
-
-const SETS: u8 = host::SETS as u8;
-
 const LINES: u8 = host::LINES as u8;
-
-const WAYS: u8 = LINES / SETS;
 
 const PAGES: u8 = host::PAGES as u8;
 
 const PHYSICALS: u8 = host::PHYSICALS as u8;
 
+const SETS: u8 = host::SETS as u8;
+
 const SLOTS: u8 = host::SLOTS as u8;
-
-const FIRST_HOST_PAGE: u8 = 4;
-
-const FIRST_FREE_PAGE: u8 = 8;
-
-const STEALTH_LINE: usize = 14;
-
-const CALLS: u8 = 6;
-
-const RUNNING: u8 = 1;
-
-const OWNER_NONE: u8 = 0;
-
-const OWNER_HOST: u8 = 1;
-
-const KIND_NONE: u8 = 0;
-
-const MARKS: u8 = 2;
-
-const HISTORIES: u8 = 2;
-
-const KIND_DATA: u8 = 1;
-
-const KIND_TABLE: u8 = 2;
-
-const OWNER_GUEST: usize = 2;
 
 enum Test {
     Held,
@@ -105,13 +61,6 @@ enum Test {
 enum EntryTest {
     Own,
     Range,
-}
-
-enum Sought {
-    HeldAgain(Guest, Pa, Ma),
-    HeldAt(Guest, Ma),
-    MapsAt(Va, Ma),
-    KeyAgain(usize, Va, Ma),
 }
 
 fn passes(h: &Host, t: Test, i: u8) -> bool
@@ -203,9 +152,7 @@ pub fn rule8(h: &Host) -> bool
 pub fn rule9(h: &Host) -> bool
     ensures { λ r. ⌜ r ≡ rule9? (view (now (h .entry)) .shape .pages .entry) (view (now (h .entry)) .shape .cache .lineAddress) (view (now (h .entry)) .shape .cache .linePage) (view (now (h .entry)) .shape .cache .history) (table (view (now (h .entry)) .shape)) ⌝ }
 {
-    let first = first_way(h, stealth_page(h, table_in_force(h)));
-    let second = host::line_empty(h, STEALTH_LINE + 1);
-    first & second & (host::history(h, STEALTH_SET as usize) == 0)
+    lines::stealth_kept(h)
 }
 
 pub fn rule10(h: &Host) -> bool
@@ -213,7 +160,7 @@ pub fn rule10(h: &Host) -> bool
 {
     host::whole(h);
     let a = host::active(h);
-    let singles = (a.0 < GUESTS) & (host::mode(h) < RUNNING + 1);
+    let singles = (a.0 < GUESTS) & (host::mode(h) < host::RUNNING + 1);
     let shapes = all(h, Test::PageRange, PAGES)
         & all(h, Test::PlaceRange, GUESTS * PHYSICALS)
         & all(h, Test::GuestRange, GUESTS)

@@ -11,8 +11,8 @@ use Rattle.laws.specs.Search.{allBelow}
 use Rattle.model.specs.Sizes.{pages, addresses}
 use Rattle.host.specs.View.{view}
 use Rattle.rules.specs.declared.EntryTest.{EntryTest}
-use Rattle.rules.specs.Places.{entryTest}
-use Rattle.rules.proofs.Loops.{all-none, all-more, all-fails}
+use Rattle.rules.specs.Tests.{entryTest}
+use Rattle.seek.proofs.Loops.{all-none, all-more, all-fails}
 use Rattle.rules.proofs.entries.all_entries.Statement.{statement}
 use Rattle.rules.proofs.entries.all_entries.Tie as tie
 

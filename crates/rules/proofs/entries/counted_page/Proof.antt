@@ -6,8 +6,8 @@ use Prim.Native.Nat.{ℕ, _+_, _*_}
 use Rattle.laws.specs.Choice.{at}
 use Rattle.model.specs.Sizes.{addresses}
 use Rattle.host.specs.View.{view}
-use Rattle.rules.specs.Places.{number}
-use Rattle.rules.proofs.Leading.{number-lead}
+use Rattle.seek.specs.Leads.{number}
+use Rattle.seek.proofs.Leading.{number-lead}
 use Rattle.rules.proofs.Shared.{count-page, count-none}
 use borrow.Author.Needs.{needs}
 use Rattle.rules.proofs.entries.counted_page.Statement.{statement}

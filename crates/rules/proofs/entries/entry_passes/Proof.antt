@@ -3,7 +3,7 @@
 use mathlib.Core.Path.{sym, ap, _∙_}
 use Rattle.host.specs.View.{view}
 use Rattle.rules.specs.declared.EntryTest.{EntryTest}
-use Rattle.rules.specs.Places.{entryTest}
+use Rattle.rules.specs.Tests.{entryTest}
 use borrow.Author.Needs.{needs}
 use Rattle.rules.proofs.entries.entry_passes.Statement.{statement}
 use Rattle.rules.proofs.entries.entry_passes.Tie as tie

@@ -5,8 +5,8 @@ use Prim.Native.Nat.{ℕ, _+_, _*_, _/_, _%_}
 use Rattle.laws.specs.Choice.{at}
 use Rattle.model.specs.Sizes.{addresses, physicals}
 use Rattle.host.specs.View.{view}
-use Rattle.rules.specs.Places.{ownBy, ownAt}
-use Rattle.rules.proofs.Leading.{leads-to, leads-nowhere}
+use Rattle.rules.specs.Tests.{ownBy, ownAt}
+use Rattle.seek.proofs.Leading.{leads-to, leads-nowhere}
 use borrow.Author.Needs.{needs}
 use Rattle.rules.proofs.entries.own.Statement.{statement}
 use Rattle.rules.proofs.entries.own.Tie as tie

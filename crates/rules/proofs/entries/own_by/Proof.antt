@@ -1,6 +1,7 @@
 -- Each test is of what was read.
 -- Assumes nothing.
-use Rattle.rules.specs.Places.{sought, ownBy}
+use Rattle.seek.specs.Leads.{sought}
+use Rattle.rules.specs.Tests.{ownBy}
 use borrow.Author.Needs.{needs}
 use Rattle.rules.proofs.entries.own_by.Statement.{statement}
 use Rattle.rules.proofs.entries.own_by.Tie as tie
