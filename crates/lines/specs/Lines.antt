@@ -12,6 +12,7 @@ use Rattle.host.specs.Lead.{leadOf}
 use Rattle.seek.specs.Leads.{leadsAt}
 use Rattle.asks.specs.Maps.{mapsPageOf}
 
+-- 7, at line i with the key (a, p)
 unfoldable pub linedBy : State → ℕ → ℕ → ℕ → Bool
 linedBy s i a p =
     ltb a addresses && eqb (setOf a) (i / ways) && eqb (at (s .shape .pages .cacheable) p) 1 && eqb (at (s .shape .pages .kind) p) kindData
@@ -21,6 +22,7 @@ linedBy s i a p =
 unfoldable pub lined : State → ℕ → Bool
 lined s i = leadsTo (at (s .shape .cache .linePage) i) (linedBy s i (at (s .shape .cache .lineAddress) i))
 
+-- 8, at slot i, for the table in force m
 unfoldable pub slotBy : State → ℕ → ℕ → ℕ → ℕ → Bool
 slotBy s m i a p =
     ltb a addresses && eqb (slotOf a) i && isPage m && leadsAt (leadOf (at (s .shape .pages .entry) (addresses * m + a))) p
@@ -28,6 +30,7 @@ slotBy s m i a p =
 unfoldable pub slotted : State → ℕ → Bool
 slotted s i = leadsTo (at (s .shape .tlb .slotPage) i) (slotBy s (table (s .shape)) i (at (s .shape .tlb .slotAddress) i))
 
+-- 9, at way 0, for the stealth page p
 unfoldable pub firstWay : State → ℕ → Bool
 firstWay s p =
     pick (isPage p) (leadsAt (leadOf (at (s .shape .cache .linePage) stealthLine)) p && eqb (at (s .shape .cache .lineAddress) stealthLine) stealth)

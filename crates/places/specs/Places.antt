@@ -12,6 +12,7 @@ use Rattle.model.specs.RuleTests.{leadsTo, stored, fits}
 use Rattle.host.specs.Lead.{leadOf}
 use Rattle.seek.specs.Leads.{leadsAt}
 
+-- 3, at a physical address: the page there is the guest's, and stands at no other of its addresses
 unfoldable pub heldBy : State → ℕ → ℕ → ℕ → Bool
 heldBy s g a p =
     eqb (at (s .shape .pages .owner) p) (ownerGuest g)
@@ -20,11 +21,13 @@ heldBy s g a p =
 unfoldable pub heldOnce : State → ℕ → Bool
 heldOnce s i = leadsTo (at (s .shape .pages .physical) (physicals * (i / physicals) + i % physicals)) (heldBy s (i / physicals) (i % physicals))
 
+-- 3, at a page: a guest that owns it has it at some address
 unfoldable pub registeredAt : State → ℕ → Bool
 registeredAt s p =
     allBelow guests (λ g. eqb (at (s .shape .pages .owner) p) (ownerGuest g)
     ⇒ someBelow physicals (λ pa. leadsAt (leadOf (at (s .shape .pages .physical) (physicals * g + pa))) p))
 
+-- 5, at a guest: its current table is a table of its own
 unfoldable pub currentTable : State → ℕ → Bool
 currentTable s g =
     let P = s .shape .pages in
@@ -34,17 +37,20 @@ currentTable s g =
     && eqb (at (P .kind) (lead (at (P .physical) (physicals * g + a)))) kindTable
     && eqb (at (P .owner) (lead (at (P .physical) (physicals * g + a)))) (ownerGuest g)
 
+-- 6, at a page as a table: what it maps at the stealth address is cacheable
 unfoldable pub stealthCacheable : State → ℕ → Bool
 stealthCacheable s m =
     let p = lead (at (s .shape .pages .entry) (addresses * m + stealth)) in
     eqb (at (s .shape .pages .kind) m) kindTable && isPage p ⇒ eqb (at (s .shape .pages .cacheable) p) 1
 
+-- 1, at a guest
 unfoldable pub callKept : State → ℕ → Bool
 callKept s g =
     let G = s .shape .guests in
     (eqb g (G .active) && eqb (G .mode) running ⇒ not (stored (at (G .call) g)))
     && (stored (at (G .call) g) ⇒ fits (at (G .call) g) (at (G .callA) g) (at (G .callB) g))
 
+-- 2, at a page of owner o, kind k, mark c, value v, that is free or not
 unfoldable pub pageOf : ℕ → ℕ → ℕ → ℕ → ℕ → Bool → Bool
 pageOf p o k c v free =
     Bool·beq (leb firstHostPage p && ltb p firstFreePage) (eqb o ownerHost) && (eqb o ownerHost ⇒ eqb k kindData && eqb c 1 && eqb v 0)

@@ -36,3 +36,6 @@ unfoldable pub slotInRange : State → ℕ → Bool
 slotInRange s i =
     let T = s .shape .tlb in
     ltb (at (T .slotAddress) i) addresses && ltb (at (T .slotPage) i) (suc pages) && (eqb (at (T .slotPage) i) 0 ⇒ eqb (at (T .slotAddress) i) 0)
+
+unfoldable pub entryInRange : State → ℕ → ℕ → Bool
+entryInRange s m va = ltb (at (s .shape .pages .entry) (addresses * m + va)) (suc pages)

@@ -34,6 +34,7 @@ test SlotRange s i = slotInRange s i
 
 -- ---- entries
 
+-- 4, at an entry
 unfoldable pub ownBy : State → ℕ → ℕ → ℕ → Bool
 ownBy s m va p =
     let P = s .shape .pages in
@@ -49,6 +50,7 @@ entryTest Range s m va = entryInRange s m va
 
 -- ---- 6, of two entries
 
+-- 6: the page that a table maps there, if it is cacheable data, else nowhere
 unfoldable pub counted : State → ℕ → ℕ → ℕ
 counted s m va =
     let P = s .shape .pages in
@@ -58,6 +60,7 @@ counted s m va =
 abbrev pub countedAt : State → ℕ → ℕ
 countedAt s i = counted s (i / addresses) (i % addresses)
 
+-- no two entries map one such page at different addresses
 unfoldable pub unshared : State → Bool
 unshared s =
     allBelow (pages * addresses) (λ i. allBelow (pages * addresses) (λ j.

@@ -22,9 +22,6 @@ add-line-empty c = search needs
 line-empty-requires : tie.Need-line-empty-requires
 line-empty-requires c κs = search needs
 
-cast-history : tie.Need-cast-history
-cast-history c = search needs
-
 history-requires : tie.Need-history-requires
 history-requires c κs = search needs
 
@@ -40,6 +37,5 @@ stealth-kept-spec =
     first-way-requires
     add-line-empty
     line-empty-requires
-    cast-history
     history-requires
     returns)

@@ -8,9 +8,6 @@ use Rattle.ranges.proofs.page_in_range.Tie as tie
 owner-requires : tie.Need-owner-requires
 owner-requires c κs = search needs
 
-cast-result : tie.Need-cast-result
-cast-result c = search needs
-
 add-result : tie.Need-add-result
 add-result c = search needs
 
@@ -32,7 +29,6 @@ page-in-range-spec =
     tie.close
     (tie.spec
     owner-requires
-    cast-result
     add-result
     kind-requires
     add-result-2

@@ -12,14 +12,11 @@ owner-requires c κs = search needs
 kind-requires : tie.Need-kind-requires
 kind-requires c κs = search needs
 
-reserved-address-requires : tie.Need-reserved-address-requires
-reserved-address-requires c κs = search needs
+reserved-requires : tie.Need-reserved-requires
+reserved-requires c κs = search needs
 
 kind-requires-2 : tie.Need-kind-requires-2
 kind-requires-2 c κs = search needs
-
-cast-result : tie.Need-cast-result
-cast-result c = search needs
 
 add-result : tie.Need-add-result
 add-result c = search needs
@@ -29,7 +26,7 @@ owner-requires-2 c κs = search needs
 
 returns : tie.Need-returns
 unfolding ownBy sought
-returns c = rw (c .owner2 .ensures, c .before .kind2 .ensures, c .before .before .reserved-address .ensures, c .before .before .before .kind .ensures, c .before .before .before .before .owner .ensures)
+returns c = rw (c .owner2 .ensures, c .before .kind2 .ensures, c .before .before .reserved .ensures, c .before .before .before .kind .ensures, c .before .before .before .before .owner .ensures)
 
 pub own-by-spec : {M : Type 1} → statement M
 own-by-spec =
@@ -37,9 +34,8 @@ own-by-spec =
     (tie.spec
     owner-requires
     kind-requires
-    reserved-address-requires
+    reserved-requires
     kind-requires-2
-    cast-result
     add-result
     owner-requires-2
     returns)
