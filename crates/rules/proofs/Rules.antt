@@ -1,32 +1,24 @@
 -- Each rule of the model is its test at each place.
 -- Assumes nothing.
-use mathlib.Core.Path.{_≡_, refl, sym, ap, _∙_, subst}
-use mathlib.Core.Bool.{Bool, true, false, _&&_, _||_, not}
-use mathlib.Core.List.{List}
+use mathlib.Core.Path.{_≡_, sym, ap, _∙_}
+use mathlib.Core.Bool.{Bool, true, _&&_, not}
 use Prim.Native.Nat.{ℕ, suc, _+_, _*_, _/_, _%_, _<_}
 use native.Mathlib.Omega.{arith}
 use lib.Dec.{ltb, eqb}
-use lib.ListN.{length}
 use borrow.Author.Tests.{lt-ltb}
-use Rattle.laws.specs.Choice.{pick, at, _⇒_, _⇔_}
+use Rattle.laws.specs.Choice.{at, _⇒_}
 use Rattle.laws.specs.Search.{allBelow, someBelow}
-use Rattle.laws.proofs.Cases.{split, same?}
-use Rattle.laws.proofs.Tests.{eq⇔, and⇔, as⇔}
-use Rattle.laws.proofs.Search.{some⇔}
 use Rattle.laws.proofs.Grid.{place-of}
-use Rattle.model.specs.Sizes.{guests, physicals, pages, addresses, lines, ways, slots, stealth, stealthSet, setOf, slotOf}
-use Rattle.model.specs.State.{State, ownerGuest, kindData, kindTable, lead, isPage, nowhere, table, lineAt, stealthLine, mapsPage}
-use Rattle.model.specs.History.{start}
-use Rattle.model.specs.Rules.{Maps}
+use Rattle.model.specs.Sizes.{guests, physicals, pages, addresses, lines, ways, slots, setOf, slotOf}
+use Rattle.model.specs.State.{State, ownerGuest, kindData, isPage, table, mapsPage}
 use Rattle.model.specs.Valid.{Sized}
-use Rattle.model.specs.RuleTests.{leadsTo, stealthPage, rule3?, rule4?, rule7?, rule8?, rule9?}
-use Rattle.model.proofs.RuleTests.{mapsPage⇔}
+use Rattle.model.specs.RuleTests.{leadsTo, rule3?, rule4?, rule7?, rule8?}
 use Rattle.host.specs.Lead.{leadOf}
 use Rattle.seek.specs.Leads.{leadsAt}
 use Rattle.places.specs.Places.{heldBy, heldOnce, registeredAt}
-use Rattle.lines.specs.Lines.{linedBy, lined, slotBy, slotted, firstWay}
-use Rattle.rules.specs.Tests.{ownBy, ownAt}
-use Rattle.seek.proofs.Loops.{agree, all-made, all-fails, all-same, some-same, all-places}
+use Rattle.lines.specs.Lines.{linedBy, lined, slotBy, slotted}
+use Rattle.entries.specs.Entries.{ownBy, ownAt}
+use Rattle.seek.proofs.Loops.{all-same, some-same, all-places}
 use Rattle.seek.proofs.Leading.{leads-same, leads-at}
 
 module _ (s : State) (size : Sized s) where

@@ -1,13 +1,8 @@
--- The tests at places by their names, and those of entries.
+-- The tests at places and at entries, by their names.
 -- Assumes nothing.
-use mathlib.Core.Bool.{Bool, _&&_, not}
-use Prim.Native.Nat.{ℕ, _+_, _*_, _/_, _%_}
-use lib.Dec.{ltb, eqb}
-use Rattle.laws.specs.Choice.{pick, at, _⇒_}
-use Rattle.laws.specs.Search.{allBelow}
-use Rattle.model.specs.Sizes.{guests, pages, addresses, reserved}
-use Rattle.model.specs.State.{State, ownerGuest, kindData, kindTable, lead, isPage, nowhere}
-use Rattle.model.specs.RuleTests.{leadsTo}
+use mathlib.Core.Bool.{Bool}
+use Prim.Native.Nat.{ℕ}
+use Rattle.model.specs.State.{State}
 use Rattle.rules.specs.declared.Test.{Test}
 use Rattle.rules.specs.declared.Test.the-variants.{Held, Registered, CurrentTable, StealthCacheable, Line, Call, Page, Slot, PageRange, PlaceRange, GuestRange, LineRange, SetRange, SlotRange}
 use Rattle.rules.specs.declared.EntryTest.{EntryTest}
@@ -15,6 +10,7 @@ use Rattle.rules.specs.declared.EntryTest.the-variants.{Own, Range}
 use Rattle.lines.specs.Lines.{lined, slotted}
 use Rattle.places.specs.Places.{heldOnce, registeredAt, currentTable, stealthCacheable, callKept, pageKept}
 use Rattle.ranges.specs.Ranges.{pageInRange, placeInRange, guestInRange, lineInRange, setInRange, slotInRange, entryInRange}
+use Rattle.entries.specs.Entries.{ownAt}
 
 unfoldable pub test : Test → State → ℕ → Bool
 test Held s i = heldOnce s i
@@ -34,34 +30,8 @@ test SlotRange s i = slotInRange s i
 
 -- ---- entries
 
--- 4, at an entry
-unfoldable pub ownBy : State → ℕ → ℕ → ℕ → Bool
-ownBy s m va p =
-    let P = s .shape .pages in
-    eqb (at (P .kind) m) kindTable && not (reserved va) && eqb (at (P .kind) p) kindData && ltb (at (P .owner) m) (ownerGuest guests)
-    && eqb (at (P .owner) p) (at (P .owner) m)
-
-unfoldable pub ownAt : State → ℕ → ℕ → Bool
-ownAt s m va = leadsTo (at (s .shape .pages .entry) (addresses * m + va)) (ownBy s m va)
-
 unfoldable pub entryTest : EntryTest → State → ℕ → ℕ → Bool
 entryTest Own s m va = ownAt s m va
 entryTest Range s m va = entryInRange s m va
 
 -- ---- 6, of two entries
-
--- 6: the page that a table maps there, if it is cacheable data, else nowhere
-unfoldable pub counted : State → ℕ → ℕ → ℕ
-counted s m va =
-    let P = s .shape .pages in
-    let p = lead (at (P .entry) (addresses * m + va)) in
-    pick (eqb (at (P .kind) m) kindTable && isPage p && eqb (at (P .kind) p) kindData && eqb (at (P .cacheable) p) 1) p nowhere
-
-abbrev pub countedAt : State → ℕ → ℕ
-countedAt s i = counted s (i / addresses) (i % addresses)
-
--- no two entries map one such page at different addresses
-unfoldable pub unshared : State → Bool
-unshared s =
-    allBelow (pages * addresses) (λ i. allBelow (pages * addresses) (λ j.
-    isPage (countedAt s i) && eqb (countedAt s i) (countedAt s j) ⇒ eqb (i % addresses) (j % addresses)))

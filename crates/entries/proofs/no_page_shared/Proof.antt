@@ -8,9 +8,9 @@ use borrow.Author.Needs.{needs}
 use Rattle.laws.specs.Choice.{at}
 use Rattle.model.specs.Sizes.{pages, addresses}
 use Rattle.host.specs.View.{view}
-use Rattle.rules.proofs.Shared.{entries, Seen, seen-start, seen-all, pass-clash, pass-more, counted-le, unshared⇔}
-use Rattle.rules.proofs.entries.no_page_shared.Statement.{statement}
-use Rattle.rules.proofs.entries.no_page_shared.Tie as tie
+use Rattle.entries.proofs.Shared.{entries, Seen, seen-start, seen-all, pass-clash, pass-more, counted-le, unshared⇔}
+use Rattle.entries.proofs.no_page_shared.Statement.{statement}
+use Rattle.entries.proofs.no_page_shared.Tie as tie
 
 abbrev Inv-loop : tie.InvT-loop
 Inv-loop h seen₀ i₀ seen i = (i ≤ entries) × Seen (view h) seen i

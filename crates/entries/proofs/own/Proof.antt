@@ -5,11 +5,11 @@ use Prim.Native.Nat.{ℕ, _+_, _*_, _/_, _%_}
 use Rattle.laws.specs.Choice.{at}
 use Rattle.model.specs.Sizes.{addresses, physicals}
 use Rattle.host.specs.View.{view}
-use Rattle.rules.specs.Tests.{ownBy, ownAt}
+use Rattle.entries.specs.Entries.{ownBy, ownAt}
 use Rattle.seek.proofs.Leading.{leads-to, leads-nowhere}
 use borrow.Author.Needs.{needs}
-use Rattle.rules.proofs.entries.own.Statement.{statement}
-use Rattle.rules.proofs.entries.own.Tie as tie
+use Rattle.entries.proofs.own.Statement.{statement}
+use Rattle.entries.proofs.own.Tie as tie
 
 entry-requires : tie.Need-entry-requires
 entry-requires c κs = search needs

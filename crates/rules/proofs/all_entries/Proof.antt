@@ -13,8 +13,8 @@ use Rattle.host.specs.View.{view}
 use Rattle.rules.specs.declared.EntryTest.{EntryTest}
 use Rattle.rules.specs.Tests.{entryTest}
 use Rattle.seek.proofs.Loops.{all-none, all-more, all-fails}
-use Rattle.rules.proofs.entries.all_entries.Statement.{statement}
-use Rattle.rules.proofs.entries.all_entries.Tie as tie
+use Rattle.rules.proofs.all_entries.Statement.{statement}
+use Rattle.rules.proofs.all_entries.Tie as tie
 
 abbrev entryOf : EntryTest → List ℕ → ℕ → Bool
 entryOf t h i = entryTest t (view h) (i / addresses) (i % addresses)

@@ -1,10 +1,10 @@
 -- Each test is of what was read.
 -- Assumes nothing.
 use Rattle.seek.specs.Leads.{sought}
-use Rattle.rules.specs.Tests.{ownBy}
+use Rattle.entries.specs.Entries.{ownBy}
 use borrow.Author.Needs.{needs}
-use Rattle.rules.proofs.entries.own_by.Statement.{statement}
-use Rattle.rules.proofs.entries.own_by.Tie as tie
+use Rattle.entries.proofs.own_by.Statement.{statement}
+use Rattle.entries.proofs.own_by.Tie as tie
 
 owner-requires : tie.Need-owner-requires
 owner-requires c κs = search needs

@@ -8,10 +8,10 @@ use Rattle.model.specs.Sizes.{addresses}
 use Rattle.host.specs.View.{view}
 use Rattle.seek.specs.Leads.{number}
 use Rattle.seek.proofs.Leading.{number-lead}
-use Rattle.rules.proofs.Shared.{count-page, count-none}
+use Rattle.entries.proofs.Shared.{count-page, count-none}
 use borrow.Author.Needs.{needs}
-use Rattle.rules.proofs.entries.counted_page.Statement.{statement}
-use Rattle.rules.proofs.entries.counted_page.Tie as tie
+use Rattle.entries.proofs.counted_page.Statement.{statement}
+use Rattle.entries.proofs.counted_page.Tie as tie
 
 entry-requires : tie.Need-entry-requires
 entry-requires c κs = search needs

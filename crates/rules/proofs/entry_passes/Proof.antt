@@ -5,8 +5,8 @@ use Rattle.host.specs.View.{view}
 use Rattle.rules.specs.declared.EntryTest.{EntryTest}
 use Rattle.rules.specs.Tests.{entryTest}
 use borrow.Author.Needs.{needs}
-use Rattle.rules.proofs.entries.entry_passes.Statement.{statement}
-use Rattle.rules.proofs.entries.entry_passes.Tie as tie
+use Rattle.rules.proofs.entry_passes.Statement.{statement}
+use Rattle.rules.proofs.entry_passes.Tie as tie
 
 enum-told : tie.Need-enum-told
 enum-told c = search needs

@@ -1,7 +1,4 @@
-// What rules 4 and 10 test at each entry: one pass over all tables.
-use super::EntryTest;
-use super::GUESTS;
-use super::PAGES;
+// What rule 4 tests at one entry, and rule 6 in one pass over all tables.
 use host::CACHEABLE;
 use host::Host;
 use host::KIND_DATA;
@@ -10,16 +7,17 @@ use host::Lead;
 use host::Ma;
 use host::OWNER_GUEST;
 use host::Va;
-use ranges::entry_in_range;
 use seek::number_of;
 ghost use mathlib.Core.Path.{_≡_};
 ghost use Prim.Native.Nat.{_+_, _*_, _/_, _%_, _<_};
-ghost use Rattle.laws.specs.Search.{allBelow};
-ghost use Rattle.model.specs.Sizes.{pages, addresses};
 ghost use Rattle.host.specs.View.{view};
-ghost use Rattle.rules.specs.Tests.{counted, unshared, ownBy, ownAt, entryTest};
+ghost use Rattle.entries.specs.Entries.{ownBy, ownAt, counted, unshared};
 
-pub(crate) fn own_by(h: &Host, m: Ma, a: Va, p: Ma) -> bool
+const GUESTS: u8 = host::GUESTS as u8;
+
+const PAGES: u8 = host::PAGES as u8;
+
+fn own_by(h: &Host, m: Ma, a: Va, p: Ma) -> bool
     ensures { λ r. ⌜ r ≡ ownBy (view (now (h .entry))) (m .0) (a .0) (p .0) ⌝ }
 {
     let o = host::owner(h, m);
@@ -30,7 +28,7 @@ pub(crate) fn own_by(h: &Host, m: Ma, a: Va, p: Ma) -> bool
         & (host::owner(h, p) == o)
 }
 
-pub(crate) fn own(h: &Host, m: Ma, a: Va) -> bool
+pub fn own(h: &Host, m: Ma, a: Va) -> bool
     ensures { λ r. ⌜ r ≡ ownAt (view (now (h .entry))) (m .0) (a .0) ⌝ }
 {
     let l = host::entry(h, m, a);
@@ -38,30 +36,6 @@ pub(crate) fn own(h: &Host, m: Ma, a: Va) -> bool
         Lead::To(p) => own_by(h, m, a, p),
         Lead::Nowhere => host::entry_empty(h, m, a),
     }
-}
-
-pub(crate) fn entry_passes(h: &Host, t: EntryTest, m: Ma, a: Va) -> bool
-    ensures { λ r. ⌜ r ≡ entryTest t (view (now (h .entry))) (m .0) (a .0) ⌝ }
-{
-    match t {
-        EntryTest::Own => own(h, m, a),
-        EntryTest::Range => entry_in_range(h, m, a),
-    }
-}
-
-pub(crate) fn all_entries(h: &Host, t: EntryTest) -> bool
-    ensures { λ r. ⌜ r ≡ allBelow (pages * addresses) (λ i. entryTest t (view (now (h .entry))) (i / addresses) (i % addresses)) ⌝ }
-{
-    let mut i: usize = 0;
-    while i < host::PAGES * host::ADDRESSES {
-        let m = Ma((i / host::ADDRESSES) as u8);
-        let a = Va((i % host::ADDRESSES) as u8);
-        if !entry_passes(h, t, m, a) {
-            return false;
-        }
-        i += 1;
-    }
-    true
 }
 
 // The page that table m maps at a, if it is cacheable data, else nowhere.
@@ -81,7 +55,7 @@ fn counted_page(h: &Host, m: Ma, a: Va) -> Ma
 }
 
 // For each page the address plus one at which it was seen, and a last place for nowhere.
-pub(crate) fn no_page_shared(h: &Host) -> bool
+pub fn no_page_shared(h: &Host) -> bool
     ensures { λ r. ⌜ r ≡ unshared (view (now (h .entry))) ⌝ }
 {
     let mut seen: [u8; host::PAGES + 1] = [0; host::PAGES + 1];
