@@ -13,7 +13,7 @@ ghost use Rattle.model.specs.Pin.{pinStep};
 ghost use Rattle.host.specs.View.{view};
 ghost use Rattle.acts.specs.Pinned.{pinned};
 
-const PIN_KINDS: u8 = 2;
+const PIN_KINDS: u8 = records::PIN_KINDS;
 
 // Page p for the active guest, g, at a: kind 0 data, 1 table.
 fn take(h: &mut Host, g: Guest, a: Pa, k: u8, p: Ma)

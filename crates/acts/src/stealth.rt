@@ -10,10 +10,10 @@ ghost use Rattle.model.specs.State.{isPage, mapped, noLine, stealthLine};
 ghost use Rattle.model.specs.Parts.{enter, saveStealth, loadStealth};
 ghost use Rattle.host.specs.View.{view};
 
-pub const STEALTH: u8 = 7;
+pub const STEALTH: u8 = host::STEALTH;
 
 // The line of the stealth page: way 0 of its set.
-pub const LINE: usize = cache::WAYS * (STEALTH as usize % host::SETS);
+pub const LINE: usize = host::STEALTH_LINE;
 
 pub(crate) fn save_stealth(h: &mut Host)
     ensures { λ _. ⌜ view (now (h .exit)) ≡ saveStealth (view (now (h .entry))) ⌝ }

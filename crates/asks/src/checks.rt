@@ -1,7 +1,5 @@
 // The refusal of an action: checks 3 and 4 from its kind's row, then its own, in order of number. 0 is none.
 use super::Named;
-use super::STEALTH;
-use super::TABLE;
 use super::has_entries;
 use super::here;
 use super::mapped;
@@ -9,11 +7,15 @@ use super::maps_any;
 use super::maps_at;
 use super::maps_away;
 use super::reserved;
+use host::CACHEABLE;
 use host::Guest;
 use host::Host;
+use host::KIND_DATA;
+use host::KIND_TABLE;
 use host::Lead;
 use host::Ma;
 use host::Pa;
+use host::STEALTH;
 use host::Va;
 use records::Action;
 ghost use mathlib.Core.Path.{_≡_};
@@ -36,10 +38,6 @@ ghost use Rattle.asks.specs.Actions.{actionFrom, nameOf};
 ghost use Rattle.asks.specs.Refusals.{otherCall, wrongCallBy, rowRefusal, newPage, newSmPage, lswitchPage, unpinPage};
 
 const NONE: u8 = 0;
-
-const DATA: u8 = 1;
-
-const CACHEABLE: u8 = 1;
 
 const ACCEPTED: u8 = 0;
 
@@ -151,7 +149,7 @@ fn of_access(h: &Host, a: Va) -> u8
 fn of_new_page(h: &Host, p: Ma) -> u8
     ensures { λ r. ⌜ r ≡ first (newPage (view (now (h .entry)) .shape) (p .0)) ⌝ }
 {
-    if host::kind(h, p) != DATA {
+    if host::kind(h, p) != KIND_DATA {
         return OTHER_KIND;
     }
     if maps_at(h, p, Va(STEALTH)) {
@@ -180,7 +178,7 @@ fn of_new(h: &Host, a: Va, b: Pa) -> u8
 fn of_new_sm_page(h: &Host, p: Ma) -> u8
     ensures { λ r. ⌜ r ≡ first (newSmPage (view (now (h .entry)) .shape) (p .0)) ⌝ }
 {
-    if host::kind(h, p) != DATA {
+    if host::kind(h, p) != KIND_DATA {
         return OTHER_KIND;
     }
     if host::cacheable(h, p) != CACHEABLE {
@@ -215,7 +213,7 @@ fn of_del(h: &Host, a: Va) -> u8
 fn of_lswitch_page(h: &Host, p: Ma) -> u8
     ensures { λ r. ⌜ r ≡ first (lswitchPage (view (now (h .entry)) .shape) (p .0)) ⌝ }
 {
-    if host::kind(h, p) == TABLE {
+    if host::kind(h, p) == KIND_TABLE {
         ACCEPTED
     } else {
         OTHER_KIND

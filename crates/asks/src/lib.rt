@@ -1,8 +1,11 @@
 // What checks ask of a state, answered on its bytes, and the refusal of an action.
+use host::FIRST_RESERVED;
 use host::Host;
+use host::KIND_TABLE;
 use host::Lead;
 use host::Ma;
 use host::Pa;
+use host::STEALTH;
 use host::Va;
 ghost use mathlib.Core.Path.{_≡_};
 ghost use mathlib.Core.Bool.{true, not, _||_};
@@ -21,13 +24,6 @@ const PAGES: u8 = host::PAGES as u8;
 const ADDRESSES: u8 = host::ADDRESSES as u8;
 
 const PHYSICALS: u8 = host::PHYSICALS as u8;
-
-const TABLE: u8 = 2;
-
-// Addresses from here on belong to the host.
-const FIRST_RESERVED: u8 = 48;
-
-const STEALTH: u8 = 7;
 
 const SETS: u8 = host::SETS as u8;
 
@@ -79,7 +75,7 @@ fn row_away(h: &Host, a: Va, p: Ma, t: Ma) -> bool
 fn table_away(h: &Host, a: Va, p: Ma, t: Ma) -> bool
     ensures { λ r. ⌜ r ≡ tableMaps (view (now (h .entry)) .shape) (butAt (a .0)) (p .0) (t .0) ⌝ }
 {
-    if host::kind(h, t) == TABLE {
+    if host::kind(h, t) == KIND_TABLE {
         row_away(h, a, p, t)
     } else {
         false
@@ -113,7 +109,7 @@ fn table_at(h: &Host, a: Va, p: Ma, t: Ma) -> bool
     requires { ⌜ a .0 < addresses ⌝ }
     ensures { λ r. ⌜ r ≡ tableMaps (view (now (h .entry)) .shape) (onlyAt (a .0)) (p .0) (t .0) ⌝ }
 {
-    if host::kind(h, t) == TABLE {
+    if host::kind(h, t) == KIND_TABLE {
         entry_is(h, p, t, a)
     } else {
         false
@@ -184,7 +180,7 @@ fn only_table(h: &Host, l: Lead) -> Lead
 {
     match l {
         Lead::To(p) => {
-            if host::kind(h, p) == TABLE {
+            if host::kind(h, p) == KIND_TABLE {
                 Lead::To(p)
             } else {
                 Lead::Nowhere

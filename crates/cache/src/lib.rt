@@ -17,7 +17,7 @@ ghost use Rattle.model.specs.Sizes.{sets};
 ghost use Rattle.host.specs.View.{view};
 ghost use Rattle.cache.specs.Sets.{lineFrom, setFrom, leadsTo, hasKeyIn, findIn, emptyWay, placeIn, replacedIn, usedIn, enteredIn};
 
-pub const WAYS: usize = 2;
+pub const WAYS: usize = host::WAYS;
 
 // A line: its address, the page it leads to, whether it is empty, and its value.
 // A damaged line may be neither empty nor lead to a page.

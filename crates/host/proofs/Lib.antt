@@ -4,7 +4,6 @@ pub mod View
 pub mod Fields
 pub mod Leads
 pub mod Numbers
-pub mod Marks
 pub mod Inverse
 pub mod FreshBytes
 pub mod Answers

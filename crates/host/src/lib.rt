@@ -1,7 +1,52 @@
 // The host's state as lent bytes: where each field stands (docs/STATE.md), one getter and one setter for each, and the numbers that address them.
 // A getter answers 0 past the end of its field, and a setter changes nothing there.
-mod values; // values.rt: numbers of more than one byte, the active guest and the mode, the map of free pages
+mod layout; // where each field stands
+mod names; // sizes, and numbers that stand for names
+mod start; // the fresh machine
+mod values; // numbers of more than one byte, the active guest and the mode, the map of free pages
 
+use layout::CALL;
+use layout::CALL_A;
+use layout::CALL_B;
+use layout::CURRENT;
+use layout::ENTRY;
+use layout::FIELDS;
+use layout::HISTORY;
+use layout::KIND;
+use layout::LINE_ADDRESS;
+use layout::LINE_PAGE;
+use layout::MARK;
+use layout::OWNER;
+use layout::PHYSICAL;
+use layout::SLOT_ADDRESS;
+use layout::SLOT_PAGE;
+pub use names::ADDRESSES;
+pub use names::CACHEABLE;
+pub use names::FIRST_FREE_PAGE;
+pub use names::FIRST_HOST_PAGE;
+pub use names::FIRST_RESERVED;
+pub use names::GUESTS;
+pub use names::HISTORIES;
+pub use names::KIND_DATA;
+pub use names::KIND_NONE;
+pub use names::KIND_TABLE;
+pub use names::LINES;
+pub use names::MARKS;
+pub use names::OWNER_GUEST;
+pub use names::OWNER_HOST;
+pub use names::OWNER_NONE;
+pub use names::PAGES;
+pub use names::PHYSICALS;
+pub use names::RUNNING;
+pub use names::SETS;
+pub use names::SIZE;
+pub use names::SLOTS;
+pub use names::STEALTH;
+pub use names::STEALTH_LINE;
+pub use names::STEALTH_SET;
+pub use names::WAITING;
+pub use names::WAYS;
+pub use start::fresh;
 pub use values::active;
 pub use values::free_pages;
 pub use values::is_free;
@@ -24,22 +69,6 @@ ghost use Rattle.laws.specs.Choice.{at};
 ghost use Rattle.model.specs.Sizes.{addresses, physicals};
 ghost use Rattle.host.specs.View.{bytes, view, Whole, listed, column, put, ownerField, kindField, cacheableField, entryField, physicalField, currentField, callField, callAField, callBField, lineAddressField, linePageField, historyField, slotAddressField, slotPageField};
 ghost use Rattle.host.specs.Lead.{leadOf, heldOf};
-
-pub const GUESTS: usize = 4;
-
-pub const PHYSICALS: usize = 16;
-
-pub const PAGES: usize = 64;
-
-pub const ADDRESSES: usize = 64;
-
-pub const LINES: usize = 16;
-
-pub const SETS: usize = 8;
-
-pub const SLOTS: usize = 8;
-
-pub const SIZE: usize = 4754;
 
 pub type Host = [u8; SIZE];
 
@@ -65,102 +94,6 @@ struct Field {
     start: usize,
     size: usize,
 }
-
-const FIELDS: [Field; 17] = [
-    Field { start: 0, size: 64 },
-    Field {
-        start: 64,
-        size: 64,
-    },
-    Field {
-        start: 128,
-        size: 64,
-    },
-    Field {
-        start: 192,
-        size: 4096,
-    },
-    Field {
-        start: 4288,
-        size: 64,
-    },
-    Field {
-        start: 4352,
-        size: 8,
-    },
-    Field {
-        start: 4360,
-        size: 4,
-    },
-    Field {
-        start: 4364,
-        size: 4,
-    },
-    Field {
-        start: 4368,
-        size: 4,
-    },
-    Field {
-        start: 4372,
-        size: 4,
-    },
-    Field {
-        start: 4376,
-        size: 1,
-    },
-    Field {
-        start: 4377,
-        size: 1,
-    },
-    Field {
-        start: 4378,
-        size: 16,
-    },
-    Field {
-        start: 4394,
-        size: 16,
-    },
-    Field {
-        start: 4410,
-        size: 8,
-    },
-    Field {
-        start: 4418,
-        size: 8,
-    },
-    Field {
-        start: 4426,
-        size: 8,
-    },
-];
-
-const OWNER: usize = 0;
-
-const KIND: usize = 1;
-
-const CACHEABLE: usize = 2;
-
-const ENTRY: usize = 3;
-
-const PHYSICAL: usize = 4;
-
-const CURRENT: usize = 6;
-
-const CALL: usize = 7;
-
-const CALL_A: usize = 8;
-
-const CALL_B: usize = 9;
-
-const LINE_ADDRESS: usize = 12;
-
-const LINE_PAGE: usize = 13;
-
-const HISTORY: usize = 14;
-
-const SLOT_ADDRESS: usize = 15;
-
-const SLOT_PAGE: usize = 16;
 
 // Byte i of field k, 0 past its end.
 fn get(h: &Host, k: usize, i: usize) -> u8
@@ -264,13 +197,13 @@ pub fn set_kind(h: &mut Host, p: Ma, v: u8)
 pub fn cacheable(h: &Host, p: Ma) -> u8
     ensures { λ r. ⌜ r ≡ at (view (now (h .entry)) .shape .pages .cacheable) (p .0) ⌝ }
 {
-    get(h, CACHEABLE, p.0 as usize)
+    get(h, MARK, p.0 as usize)
 }
 
 pub fn set_cacheable(h: &mut Host, p: Ma, v: u8)
     ensures { λ _. ⌜ view (now (h .exit)) ≡ put cacheableField (view (now (h .entry))) (p .0) v ⌝ }
 {
-    set(h, CACHEABLE, p.0 as usize, v)
+    set(h, MARK, p.0 as usize, v)
 }
 
 // To what table t leads from address a.
@@ -436,9 +369,3 @@ pub fn set_slot_page(h: &mut Host, i: usize, l: Lead)
 {
     set_lead(h, SLOT_PAGE, i, l)
 }
-
-// ---- the fresh machine
-
-mod start;
-
-pub use start::fresh;

@@ -1,10 +1,23 @@
 // The fresh machine, stored byte by byte whatever the bytes were.
-use super::ADDRESSES;
+use super::FIRST_FREE_PAGE;
 use super::GUESTS;
 use super::Host;
-use super::PAGES;
+use super::KIND_DATA;
+use super::KIND_NONE;
+use super::KIND_TABLE;
+use super::OWNER_GUEST;
+use super::OWNER_HOST;
+use super::OWNER_NONE;
 use super::PHYSICALS;
+use super::RUNNING;
 use super::SIZE;
+use super::layout::CACHEABLE_AT;
+use super::layout::CURRENT_AT;
+use super::layout::ENTRY_AT;
+use super::layout::FREE_AT;
+use super::layout::KIND_AT;
+use super::layout::MODE_AT;
+use super::layout::PHYSICAL_AT;
 ghost use mathlib.Core.Path.{_≡_};
 ghost use Prim.Native.Nat.{ℕ, _*_, _≤_, _<_};
 ghost use lib.ListN.{length};
@@ -14,44 +27,28 @@ ghost use Rattle.host.specs.Cut.{begin};
 ghost use Rattle.host.specs.View.{sizes, bytes, view, physicalField};
 ghost use Rattle.host.specs.FreshBytes.{freshMap, laterByte, freshByte};
 
-const HOST_PAGES: usize = 4;
+const FIRST_FREE: usize = FIRST_FREE_PAGE as usize;
 
-const FIRST_FREE: usize = GUESTS + HOST_PAGES;
-
-// Where the fields begin that do not hold 0 alone, and those after them.
-const KIND_AT: usize = PAGES;
-
-const CACHEABLE_AT: usize = KIND_AT + PAGES;
-
-const ENTRY_AT: usize = CACHEABLE_AT + PAGES;
-
-const PHYSICAL_AT: usize = ENTRY_AT + PAGES * ADDRESSES;
-
-const MAP_AT: usize = PHYSICAL_AT + GUESTS * PHYSICALS;
-
-const CURRENT_AT: usize = MAP_AT + 8;
-
-// after the current tables, the calls with their two arguments, and the active guest
-const MODE_AT: usize = CURRENT_AT + 4 * GUESTS + 1;
-
-// 2 + g for guest g, 1 for the host, 0 for none
 fn fresh_owner(p: usize) -> u8
     ensures { λ r. ⌜ r ≡ freshOwner p ⌝ }
 {
     if p < GUESTS {
-        return p as u8 + 2;
+        return p as u8 + OWNER_GUEST;
     }
-    if p < FIRST_FREE { 1 } else { 0 }
+    if p < FIRST_FREE {
+        OWNER_HOST
+    } else {
+        OWNER_NONE
+    }
 }
 
-// 2 for a table, 1 for data, 0 for none
 fn fresh_kind(p: usize) -> u8
     ensures { λ r. ⌜ r ≡ freshKind p ⌝ }
 {
     if p < GUESTS {
-        return 2;
+        return KIND_TABLE;
     }
-    if p < FIRST_FREE { 1 } else { 0 }
+    if p < FIRST_FREE { KIND_DATA } else { KIND_NONE }
 }
 
 // Page g plus one at guest g's physical 0.
@@ -78,13 +75,13 @@ fn later_byte(i: usize) -> u8
     requires { ⌜ begin sizes physicalField ≤ i ⌝ }
     ensures { λ r. ⌜ r ≡ laterByte i ⌝ }
 {
-    if i < MAP_AT {
+    if i < FREE_AT {
         return fresh_physical(i - PHYSICAL_AT);
     }
     if i < CURRENT_AT {
-        return fresh_map(i - MAP_AT);
+        return fresh_map(i - FREE_AT);
     }
-    if i == MODE_AT { 1 } else { 0 }
+    if i == MODE_AT { RUNNING } else { 0 }
 }
 
 // The byte at place i.

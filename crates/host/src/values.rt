@@ -1,17 +1,17 @@
 // The state's numbers of more than one byte, its numbers that are no list, and the map of free pages.
-use super::ADDRESSES;
 use super::Field;
-use super::GUESTS;
 use super::Guest;
 use super::Host;
 use super::LINES;
 use super::Lead;
 use super::Ma;
 use super::PAGES;
-use super::PHYSICALS;
-use super::SIZE;
+use super::layout::ACTIVE_AT;
+use super::layout::FREE_AT;
+use super::layout::LINE_AT;
+use super::layout::MEMORY_AT;
 ghost use mathlib.Core.Path.{_≡_};
-ghost use Prim.Native.Nat.{_+_, _*_, _^_, _<_, _≤_};
+ghost use Prim.Native.Nat.{_+_, _<_, _≤_};
 ghost use lib.ListN.{length};
 ghost use Rattle.laws.specs.Choice.{pick, at};
 ghost use Rattle.laws.specs.Search.{countBelow};
@@ -72,11 +72,11 @@ fn set_word(h: &mut Host, at: usize, v: u32)
 // Where each of the two begins, and how many numbers it has.
 const VALUES: [Field; 2] = [
     Field {
-        start: SIZE - 4 * LINES - 4 * PAGES,
+        start: MEMORY_AT,
         size: PAGES,
     },
     Field {
-        start: SIZE - 4 * LINES,
+        start: LINE_AT,
         size: LINES,
     },
 ];
@@ -134,10 +134,6 @@ pub fn set_line_value(h: &mut Host, i: usize, v: u32)
 
 // ---- the active guest and the mode
 
-const FREE: usize = 3 * PAGES + PAGES * ADDRESSES + GUESTS * PHYSICALS;
-
-const SINGLES: usize = FREE + 8 + 4 * GUESTS;
-
 const ACTIVE: usize = 0;
 
 const MODE: usize = 1;
@@ -146,7 +142,7 @@ fn get_single(h: &Host, k: usize) -> u8
     requires { ⌜ k < singles ⌝ }
     ensures { λ r. ⌜ r ≡ single k (view (now (h .entry))) ⌝ }
 {
-    h[SINGLES + k]
+    h[ACTIVE_AT + k]
 }
 
 fn set_single(h: &mut Host, k: usize, v: u8)
@@ -154,7 +150,7 @@ fn set_single(h: &mut Host, k: usize, v: u8)
     ensures { λ _. ⌜ view (now (h .exit)) ≡ putSingle k (view (now (h .entry))) v ⌝ }
 {
     whole(h);
-    h[SINGLES + k] = v;
+    h[ACTIVE_AT + k] = v;
 }
 
 pub fn active(h: &Host) -> Guest
@@ -186,8 +182,8 @@ pub fn set_mode(h: &mut Host, m: u8)
 fn free(h: &Host) -> u64
     ensures { λ r. ⌜ r ≡ view (now (h .entry)) .shape .pages .free ⌝ }
 {
-    let a = word(h, FREE) as u64;
-    let b = word(h, FREE + 4) as u64;
+    let a = word(h, FREE_AT) as u64;
+    let b = word(h, FREE_AT + 4) as u64;
     a + 4294967296 * b
 }
 
@@ -195,53 +191,20 @@ fn set_free(h: &mut Host, v: u64)
     ensures { λ _. ⌜ view (now (h .exit)) ≡ putFree (view (now (h .entry))) v ⌝ }
 {
     whole(h);
-    set_word(h, FREE, (v % 4294967296) as u32);
-    set_word(h, FREE + 4, (v / 4294967296) as u32);
-}
-
-fn one_bit(n: u8) -> u64
-    requires { ⌜ n < pages ⌝ }
-    ensures { λ r. ⌜ r ≡ 2 ^ n ⌝ }
-{
-    1u64 << n
-}
-
-fn is_marked(m: u64, n: u8) -> bool
-    ensures { λ r. ⌜ r ≡ marks m n ⌝ }
-{
-    if (n as usize) < PAGES {
-        (m / one_bit(n)) % 2 == 1
-    } else {
-        false
-    }
-}
-
-fn with_mark(m: u64, n: u8) -> u64
-    ensures { λ r. ⌜ r ≡ pick (isPage n) (marked m n) m ⌝ }
-{
-    if (n as usize) < PAGES {
-        if is_marked(m, n) { m } else { m + one_bit(n) }
-    } else {
-        m
-    }
-}
-
-fn without_mark(m: u64, n: u8) -> u64
-    ensures { λ r. ⌜ r ≡ unmarked m n ⌝ }
-{
-    if is_marked(m, n) { m - one_bit(n) } else { m }
+    set_word(h, FREE_AT, (v % 4294967296) as u32);
+    set_word(h, FREE_AT + 4, (v / 4294967296) as u32);
 }
 
 pub fn free_pages(h: &Host) -> u32
     ensures { λ r. ⌜ r ≡ countBelow pages (marks (view (now (h .entry)) .shape .pages .free)) ⌝ }
 {
-    u64::count_ones(free(h))
+    marks::count(free(h))
 }
 
 pub fn lowest_free(h: &Host) -> Lead
     ensures { λ r. ⌜ r ≡ toward (lowestFree (view (now (h .entry)) .shape .pages .free)) ⌝ }
 {
-    let p = u64::trailing_zeros(free(h));
+    let p = marks::lowest(free(h));
     if (p as usize) < PAGES {
         Lead::To(Ma(p as u8))
     } else {
@@ -252,19 +215,19 @@ pub fn lowest_free(h: &Host) -> Lead
 pub fn is_free(h: &Host, p: Ma) -> bool
     ensures { λ r. ⌜ r ≡ marks (view (now (h .entry)) .shape .pages .free) (p .0) ⌝ }
 {
-    is_marked(free(h), p.0)
+    marks::is_marked(free(h), p.0)
 }
 
 pub fn mark_free(h: &mut Host, p: Ma)
     ensures { λ _. ⌜ view (now (h .exit)) ≡ putFree (view (now (h .entry))) (pick (isPage (p .0)) (marked (view (now (h .entry)) .shape .pages .free) (p .0)) (view (now (h .entry)) .shape .pages .free)) ⌝ }
 {
     let m = free(h);
-    set_free(h, with_mark(m, p.0))
+    set_free(h, marks::with_mark(m, p.0))
 }
 
 pub fn unmark_free(h: &mut Host, p: Ma)
     ensures { λ _. ⌜ view (now (h .exit)) ≡ putFree (view (now (h .entry))) (unmarked (view (now (h .entry)) .shape .pages .free) (p .0)) ⌝ }
 {
     let m = free(h);
-    set_free(h, without_mark(m, p.0))
+    set_free(h, marks::without_mark(m, p.0))
 }

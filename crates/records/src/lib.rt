@@ -24,9 +24,9 @@ pub struct Row {
     pub b_below: u8,
 }
 
-pub const WAITING: u8 = 0;
+pub const WAITING: u8 = host::WAITING;
 
-pub const RUNNING: u8 = 1;
+pub const RUNNING: u8 = host::RUNNING;
 
 // Any mode will do.
 pub const ANY: u8 = 2;
@@ -50,7 +50,7 @@ pub const NAMED_IDLE: u8 = 7;
 
 const KINDS: u8 = 15;
 
-const CALLS: u8 = 6;
+pub const CALLS: u8 = 6;
 
 const RECORD: usize = 8;
 
@@ -60,9 +60,9 @@ const PHYSICALS: u8 = host::PHYSICALS as u8;
 
 const GUESTS: u8 = host::GUESTS as u8;
 
-const STEALTH: u8 = 7;
+const STEALTH: u8 = host::STEALTH;
 
-const PIN_KINDS: u8 = 2;
+pub const PIN_KINDS: u8 = 2;
 
 const WRITE: u8 = 3;
 

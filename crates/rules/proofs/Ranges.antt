@@ -19,8 +19,8 @@ use Rattle.model.specs.RuleTests.{fits, rule10?}
 use Rattle.model.specs.Valid.{Sized}
 use Rattle.model.proofs.RuleTests.{within⇔, rule10⇔}
 use Rattle.host.proofs.Inverse.{Bounded}
-use Rattle.rules.specs.Places.{pageInRange, placeInRange, guestInRange, lineInRange, setInRange, slotInRange, entryInRange}
-use Rattle.rules.proofs.Loops.{agree}
+use Rattle.ranges.specs.Ranges.{pageInRange, placeInRange, guestInRange, lineInRange, setInRange, slotInRange, entryInRange}
+use Rattle.seek.proofs.Loops.{agree}
 
 module _ (s : State) where
   page⇔ : (p : ℕ) → p < pages → pageInRange s p

@@ -1,30 +1,25 @@
 -- Each rule of the model is its test at each place.
 -- Assumes nothing.
-use mathlib.Core.Path.{_≡_, refl, sym, ap, _∙_, subst}
-use mathlib.Core.Bool.{Bool, true, false, _&&_, _||_, not}
-use mathlib.Core.List.{List}
+use mathlib.Core.Path.{_≡_, sym, ap, _∙_}
+use mathlib.Core.Bool.{Bool, true, _&&_, not}
 use Prim.Native.Nat.{ℕ, suc, _+_, _*_, _/_, _%_, _<_}
 use native.Mathlib.Omega.{arith}
 use lib.Dec.{ltb, eqb}
-use lib.ListN.{length}
-use borrow.Author.Tests.{ltb-true}
-use Rattle.laws.specs.Choice.{pick, at, _⇒_, _⇔_}
+use borrow.Author.Tests.{lt-ltb}
+use Rattle.laws.specs.Choice.{at, _⇒_}
 use Rattle.laws.specs.Search.{allBelow, someBelow}
-use Rattle.laws.proofs.Cases.{split, same?}
-use Rattle.laws.proofs.Tests.{eq⇔, and⇔, as⇔}
-use Rattle.laws.proofs.Search.{some⇔}
 use Rattle.laws.proofs.Grid.{place-of}
-use Rattle.model.specs.Sizes.{guests, physicals, pages, addresses, lines, ways, slots, stealth, stealthSet, setOf, slotOf}
-use Rattle.model.specs.State.{State, ownerGuest, kindData, kindTable, lead, isPage, nowhere, table, lineAt, stealthLine, mapsPage}
-use Rattle.model.specs.History.{start}
-use Rattle.model.specs.Rules.{Maps}
+use Rattle.model.specs.Sizes.{guests, physicals, pages, addresses, lines, ways, slots, setOf, slotOf}
+use Rattle.model.specs.State.{State, ownerGuest, kindData, isPage, table, mapsPage}
 use Rattle.model.specs.Valid.{Sized}
-use Rattle.model.specs.RuleTests.{leadsTo, stealthPage, rule3?, rule4?, rule7?, rule8?, rule9?}
-use Rattle.model.proofs.RuleTests.{mapsPage⇔}
+use Rattle.model.specs.RuleTests.{leadsTo, rule3?, rule4?, rule7?, rule8?}
 use Rattle.host.specs.Lead.{leadOf}
-use Rattle.rules.specs.Places.{leadsAt, heldBy, heldOnce, registeredAt, linedBy, lined, slotBy, slotted, firstWay, ownBy, ownAt}
-use Rattle.rules.proofs.Loops.{agree, all-made, all-fails, all-same, some-same, all-places}
-use Rattle.rules.proofs.Leading.{leads-same, leads-at}
+use Rattle.seek.specs.Leads.{leadsAt}
+use Rattle.places.specs.Places.{heldBy, heldOnce, registeredAt}
+use Rattle.lines.specs.Lines.{linedBy, lined, slotBy, slotted}
+use Rattle.entries.specs.Entries.{ownBy, ownAt}
+use Rattle.seek.proofs.Loops.{all-same, some-same, all-places}
+use Rattle.seek.proofs.Leading.{leads-same, leads-at}
 
 module _ (s : State) (size : Sized s) where
   -- ---- 3
@@ -67,19 +62,6 @@ module _ (s : State) (size : Sized s) where
 
   -- ---- 7
 
-  -- some table maps page p at address a
-  maps-is : (a p : ℕ) → a < addresses → p < pages
-      → someBelow pages (λ m. leadsAt (leadOf (at (s .shape .pages .entry) (addresses * m + a))) p && eqb (at (s .shape .pages .kind) m) kindTable)
-      ≡ mapsPage (s .shape .pages .kind) (s .shape .pages .entry) (λ v. eqb v a) p
-  maps-is a p h k =
-      let e : ℕ → ℕ = λ m. at (s .shape .pages .entry) (addresses * m + a) in
-      some-same pages (λ m l. ap (λ (b : Bool). b && eqb (at (s .shape .pages .kind) m) kindTable) (leads-at (e m) p k))
-      ∙ agree
-      (as⇔ (some⇔ pages (λ m l. and⇔ (eq⇔ (e m) (suc p)) (eq⇔ (at (s .shape .pages .kind) m) kindTable)))
-      (λ w. (w .0, a, refl, record { page = w .1; address = h; isTable = w .2 .1; holds = w .2 .0 }))
-      (λ w. (w .0, w .3 .page, (subst (λ (v : ℕ). at (s .shape .pages .entry) (addresses * w .0 + v) ≡ suc p) (w .2) (w .3 .holds), w .3 .isTable))))
-      (mapsPage⇔ (s .shape .pages .kind) (s .shape .pages .entry) (λ v. eq⇔ v a) p (size .entry))
-
   lined-is : (i a p : ℕ) → p < pages
       → linedBy s i a p ≡ (ltb a addresses && eqb (setOf a) (i / ways) && eqb (at (s .shape .pages .cacheable) p) 1 && eqb (at (s .shape .pages .kind) p) kindData
       && mapsPage (s .shape .pages .kind) (s .shape .pages .entry) (λ v. eqb v a) p
@@ -87,13 +69,9 @@ module _ (s : State) (size : Sized s) where
   unfolding linedBy
   lined-is i a p h =
       let k : ℕ → Bool → Bool = λ j b. not (b && eqb a (at (s .shape .cache .lineAddress) j) ⇒ eqb i j) in
-      let m = mapsPage (s .shape .pages .kind) (s .shape .pages .entry) (λ v. eqb v a) p in
-      let n = someBelow lines (λ j. k j (leadsAt (leadOf (at (s .shape .cache .linePage) j)) p)) in
-      let t : Bool → Bool → Bool = λ m n. ltb a addresses && eqb (setOf a) (i / ways) && eqb (at (s .shape .pages .cacheable) p) 1 && eqb (at (s .shape .pages .kind) p) kindData && m && not n in
-      split (ltb a addresses)
-      (λ e. ap (λ (b : Bool). t b n) (maps-is a p (ltb-true a addresses e) h)
-      ∙ ap (λ (b : Bool). t m b) (some-same lines (λ j l. ap (k j) (leads-at (at (s .shape .cache .linePage) j) p h))))
-      (λ e. rw e)
+      let t : Bool → Bool → Bool = λ g n. ltb a addresses && eqb (setOf a) (i / ways) && eqb (at (s .shape .pages .cacheable) p) 1 && eqb (at (s .shape .pages .kind) p) kindData && (g && mapsPage (s .shape .pages .kind) (s .shape .pages .entry) (λ v. eqb v a) p) && not n in
+      ap (λ (b : Bool). t b (someBelow lines (λ j. k j (leadsAt (leadOf (at (s .shape .cache .linePage) j)) p)))) (lt-ltb p pages h)
+      ∙ ap (λ (b : Bool). t true b) (some-same lines (λ j l. ap (k j) (leads-at (at (s .shape .cache .linePage) j) p h)))
 
   pub rule7-is : allBelow lines (lined s) ≡ rule7? (s .shape .pages .kind) (s .shape .pages .cacheable) (s .shape .pages .entry) (s .shape .cache .lineAddress) (s .shape .cache .linePage)
   unfolding rule7? lined
@@ -109,34 +87,3 @@ slot-is s m i a p h = ap (λ (b : Bool). ltb a addresses && eqb (slotOf a) i && 
 pub rule8-is : (s : State) → allBelow slots (slotted s) ≡ rule8? (s .shape .pages .entry) (s .shape .tlb .slotAddress) (s .shape .tlb .slotPage) (table (s .shape))
 unfolding rule8? slotted
 rule8-is s = all-same slots (λ i l. leads-same (at (s .shape .tlb .slotPage) i) (slot-is s (table (s .shape)) i (at (s .shape .tlb .slotAddress) i)))
-
--- ---- 9
-
-pub two : (f : ℕ → Bool) → allBelow ways f ≡ (f 0 && f 1)
-two f = split (f 0) (λ e. split (f 1) (λ d. all-made f ways (λ i h. both e d i h) ∙ sym (rw (e, d))) (λ d. all-fails f ways 1 (omega arith) d ∙ sym (rw (e, d)))) (λ e. all-fails f ways 0 (omega arith) e ∙ sym (rw e))
-  where
-    both : f 0 ≡ true → f 1 ≡ true → (i : ℕ) → i < ways → f i ≡ true
-    both e d i h = same? i 0 (λ q. ap f q ∙ e) (λ q. let z : i ≡ 1 = omega arith in ap f z ∙ d)
-
-pub rule9-is : (s : State)
-    → (firstWay s (stealthPage (s .shape .pages .entry) (table (s .shape))) && eqb (at (s .shape .cache .linePage) (lineAt stealthSet 1)) 0 && eqb (at (s .shape .cache .history) stealthSet) start)
-    ≡ rule9? (s .shape .pages .entry) (s .shape .cache .lineAddress) (s .shape .cache .linePage) (s .shape .cache .history) (table (s .shape))
-unfolding rule9? firstWay
-rule9-is s =
-    let p = stealthPage (s .shape .pages .entry) (table (s .shape)) in
-    let l = at (s .shape .cache .linePage) in
-    let x = eqb (at (s .shape .cache .lineAddress) stealthLine) stealth in
-    ap (λ (b : Bool). b && eqb (l (lineAt stealthSet 1)) 0 && eqb (at (s .shape .cache .history) stealthSet) start)
-    (split (isPage p)
-    (λ e. ap (λ (b : Bool). pick (isPage p) (b && x) (eqb (l stealthLine) 0)) (leads-at (l stealthLine) p (ltb-true p pages e)))
-    (λ e. rw e))
-    ∙ ap (λ (b : Bool). b && eqb (at (s .shape .cache .history) stealthSet) start)
-    (sym (two (λ w. pick (eqb w 0 && isPage p) (eqb (l stealthLine) (suc p) && x) (eqb (l (lineAt stealthSet w)) 0))))
-
--- ---- the table in force
-
-pub in-force : (s : State) (g a m k : ℕ) → g ≡ s .shape .guests .active → a ≡ at (s .shape .guests .current) g
-    → m ≡ lead (at (s .shape .pages .physical) (physicals * g + a)) → k ≡ at (s .shape .pages .kind) m
-    → table (s .shape) ≡ pick (ltb a physicals && eqb k kindTable) m nowhere
-unfolding table
-in-force s g a m k p q r t = rw (t, r, q, p)

@@ -1,89 +1,46 @@
 // The test of validity: a function for each rule of docs/RULES.md.
-mod entries;
-mod places;
-mod range;
-mod seek;
-
-use entries::all_entries;
 use entries::no_page_shared;
+use entries::own;
 use host::Guest;
 use host::Host;
 use host::Ma;
-use host::Pa;
 use host::Va;
+use lines::line;
+use lines::slot;
 use places::call_kept;
 use places::current_table;
-use places::first_way;
 use places::held;
-use places::line;
 use places::page_kept;
 use places::registered;
-use places::slot;
 use places::stealth_cacheable;
-use places::stealth_page;
-use places::table_in_force;
-use range::guest_in_range;
-use range::line_in_range;
-use range::page_in_range;
-use range::place_in_range;
-use range::set_in_range;
-use range::slot_in_range;
+use ranges::entry_in_range;
+use ranges::guest_in_range;
+use ranges::line_in_range;
+use ranges::page_in_range;
+use ranges::place_in_range;
+use ranges::set_in_range;
+use ranges::slot_in_range;
 ghost use mathlib.Core.Path.{_≡_};
-ghost use Prim.Native.Nat.{_+_, _*_, _<_};
+ghost use Prim.Native.Nat.{_+_, _*_, _/_, _%_, _<_};
 ghost use Rattle.laws.specs.Search.{allBelow};
+ghost use Rattle.model.specs.Sizes.{pages, addresses};
 ghost use Rattle.model.specs.State.{table};
 ghost use Rattle.model.specs.RuleTests.{rule1?, rule2?, rule8?, rule9?, rule10?, rule3?, rule4?, rule5?, rule6?, rule7?};
 ghost use Rattle.model.specs.Valid.{valid?};
 ghost use Rattle.host.specs.View.{view};
-ghost use Rattle.rules.specs.Places.{test};
+ghost use Rattle.rules.specs.Tests.{test, entryTest};
 
 const GUESTS: u8 = host::GUESTS as u8;
 
-const ADDRESSES: u8 = host::ADDRESSES as u8;
-
-const FIRST_RESERVED: u8 = 48;
-
-const STEALTH: u8 = 7;
-
-const STEALTH_SET: u8 = 7;
-
-const SETS: u8 = host::SETS as u8;
-
 const LINES: u8 = host::LINES as u8;
-
-const WAYS: u8 = LINES / SETS;
 
 const PAGES: u8 = host::PAGES as u8;
 
 const PHYSICALS: u8 = host::PHYSICALS as u8;
 
+const SETS: u8 = host::SETS as u8;
+
 const SLOTS: u8 = host::SLOTS as u8;
-
-const FIRST_HOST_PAGE: u8 = 4;
-
-const FIRST_FREE_PAGE: u8 = 8;
-
-const STEALTH_LINE: usize = 14;
-
-const CALLS: u8 = 6;
-
-const RUNNING: u8 = 1;
-
-const OWNER_NONE: u8 = 0;
-
-const OWNER_HOST: u8 = 1;
-
-const KIND_NONE: u8 = 0;
-
-const MARKS: u8 = 2;
-
-const HISTORIES: u8 = 2;
-
-const KIND_DATA: u8 = 1;
-
-const KIND_TABLE: u8 = 2;
-
-const OWNER_GUEST: usize = 2;
 
 enum Test {
     Held,
@@ -105,13 +62,6 @@ enum Test {
 enum EntryTest {
     Own,
     Range,
-}
-
-enum Sought {
-    HeldAgain(Guest, Pa, Ma),
-    HeldAt(Guest, Ma),
-    MapsAt(Va, Ma),
-    KeyAgain(usize, Va, Ma),
 }
 
 fn passes(h: &Host, t: Test, i: u8) -> bool
@@ -148,6 +98,42 @@ fn all(h: &Host, t: Test, n: u8) -> bool
     true
 }
 
+fn entry_passes(h: &Host, t: EntryTest, m: Ma, a: Va) -> bool
+    ensures { λ r. ⌜ r ≡ entryTest t (view (now (h .entry))) (m .0) (a .0) ⌝ }
+{
+    match t {
+        EntryTest::Own => own(h, m, a),
+        EntryTest::Range => entry_in_range(h, m, a),
+    }
+}
+
+fn all_entries(h: &Host, t: EntryTest) -> bool
+    ensures { λ r. ⌜ r ≡ allBelow (pages * addresses) (λ i. entryTest t (view (now (h .entry))) (i / addresses) (i % addresses)) ⌝ }
+{
+    let mut i: usize = 0;
+    while i < host::PAGES * host::ADDRESSES {
+        let m = Ma((i / host::ADDRESSES) as u8);
+        let a = Va((i % host::ADDRESSES) as u8);
+        if !entry_passes(h, t, m, a) {
+            return false;
+        }
+        i += 1;
+    }
+    true
+}
+
+pub fn rule1(h: &Host) -> bool
+    ensures { λ r. ⌜ r ≡ rule1? (view (now (h .entry)) .shape .guests .call) (view (now (h .entry)) .shape .guests .callA) (view (now (h .entry)) .shape .guests .callB) (view (now (h .entry)) .shape .guests .active) (view (now (h .entry)) .shape .guests .mode) ⌝ }
+{
+    all(h, Test::Call, GUESTS)
+}
+
+pub fn rule2(h: &Host) -> bool
+    ensures { λ r. ⌜ r ≡ rule2? (view (now (h .entry)) .shape .pages .owner) (view (now (h .entry)) .shape .pages .kind) (view (now (h .entry)) .shape .pages .cacheable) (view (now (h .entry)) .values .memory) (view (now (h .entry)) .shape .pages .free) ⌝ }
+{
+    all(h, Test::Page, PAGES)
+}
+
 pub fn rule3(h: &Host) -> bool
     ensures { λ r. ⌜ r ≡ rule3? (view (now (h .entry)) .shape .pages .owner) (view (now (h .entry)) .shape .pages .physical) ⌝ }
 {
@@ -182,18 +168,6 @@ pub fn rule7(h: &Host) -> bool
     all(h, Test::Line, LINES)
 }
 
-pub fn rule1(h: &Host) -> bool
-    ensures { λ r. ⌜ r ≡ rule1? (view (now (h .entry)) .shape .guests .call) (view (now (h .entry)) .shape .guests .callA) (view (now (h .entry)) .shape .guests .callB) (view (now (h .entry)) .shape .guests .active) (view (now (h .entry)) .shape .guests .mode) ⌝ }
-{
-    all(h, Test::Call, GUESTS)
-}
-
-pub fn rule2(h: &Host) -> bool
-    ensures { λ r. ⌜ r ≡ rule2? (view (now (h .entry)) .shape .pages .owner) (view (now (h .entry)) .shape .pages .kind) (view (now (h .entry)) .shape .pages .cacheable) (view (now (h .entry)) .values .memory) (view (now (h .entry)) .shape .pages .free) ⌝ }
-{
-    all(h, Test::Page, PAGES)
-}
-
 pub fn rule8(h: &Host) -> bool
     ensures { λ r. ⌜ r ≡ rule8? (view (now (h .entry)) .shape .pages .entry) (view (now (h .entry)) .shape .tlb .slotAddress) (view (now (h .entry)) .shape .tlb .slotPage) (table (view (now (h .entry)) .shape)) ⌝ }
 {
@@ -203,9 +177,7 @@ pub fn rule8(h: &Host) -> bool
 pub fn rule9(h: &Host) -> bool
     ensures { λ r. ⌜ r ≡ rule9? (view (now (h .entry)) .shape .pages .entry) (view (now (h .entry)) .shape .cache .lineAddress) (view (now (h .entry)) .shape .cache .linePage) (view (now (h .entry)) .shape .cache .history) (table (view (now (h .entry)) .shape)) ⌝ }
 {
-    let first = first_way(h, stealth_page(h, table_in_force(h)));
-    let second = host::line_empty(h, STEALTH_LINE + 1);
-    first & second & (host::history(h, STEALTH_SET as usize) == 0)
+    lines::stealth_kept(h)
 }
 
 pub fn rule10(h: &Host) -> bool
@@ -213,7 +185,7 @@ pub fn rule10(h: &Host) -> bool
 {
     host::whole(h);
     let a = host::active(h);
-    let singles = (a.0 < GUESTS) & (host::mode(h) < RUNNING + 1);
+    let singles = (a.0 < GUESTS) & (host::mode(h) < host::RUNNING + 1);
     let shapes = all(h, Test::PageRange, PAGES)
         & all(h, Test::PlaceRange, GUESTS * PHYSICALS)
         & all(h, Test::GuestRange, GUESTS)
@@ -223,6 +195,7 @@ pub fn rule10(h: &Host) -> bool
     singles & shapes & all_entries(h, EntryTest::Range)
 }
 
+// Without an exit in between: a valid state, which is what is judged, passes them all.
 pub fn valid(h: &Host) -> bool
     ensures { λ r. ⌜ r ≡ valid? (view (now (h .entry))) ⌝ }
 {

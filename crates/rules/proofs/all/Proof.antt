@@ -8,8 +8,8 @@ use borrow.Author.Needs.{needs}
 use borrow.Author.Tests.{not-true, not-false}
 use Rattle.laws.specs.Search.{allBelow}
 use Rattle.host.specs.View.{view}
-use Rattle.rules.specs.Places.{test}
-use Rattle.rules.proofs.Loops.{all-none, all-more, all-fails}
+use Rattle.rules.specs.Tests.{test}
+use Rattle.seek.proofs.Loops.{all-none, all-more, all-fails}
 use Rattle.rules.proofs.all.Statement.{statement}
 use Rattle.rules.proofs.all.Tie as tie
 

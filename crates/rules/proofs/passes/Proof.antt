@@ -4,7 +4,7 @@ use mathlib.Core.Path.{_≡_, sym, ap, _∙_}
 use Prim.Native.Nat.{ℕ}
 use Rattle.host.specs.View.{view}
 use Rattle.rules.specs.declared.Test.{Test}
-use Rattle.rules.specs.Places.{test}
+use Rattle.rules.specs.Tests.{test}
 use borrow.Author.Needs.{needs}
 use Rattle.rules.proofs.passes.Statement.{statement}
 use Rattle.rules.proofs.passes.Tie as tie

@@ -1,7 +1,8 @@
 -- The test at each guest.
 -- Assumes nothing.
 use Rattle.model.specs.RuleTests.{rule1?}
-use Rattle.rules.specs.Places.{test, callKept}
+use Rattle.rules.specs.Tests.{test}
+use Rattle.places.specs.Places.{callKept}
 use borrow.Author.Needs.{needs}
 use Rattle.rules.proofs.rule1.Statement.{statement}
 use Rattle.rules.proofs.rule1.Tie as tie

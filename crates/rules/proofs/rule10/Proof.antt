@@ -3,7 +3,7 @@
 use mathlib.Core.Path.{_∙_}
 use Rattle.host.specs.View.{view}
 use Rattle.host.proofs.Inverse.{view-sized, view-bytes}
-use Rattle.rules.specs.Places.{test, entryTest}
+use Rattle.rules.specs.Tests.{test, entryTest}
 use Rattle.rules.proofs.Ranges.{rule10-is}
 use borrow.Author.Needs.{needs}
 use Rattle.rules.proofs.rule10.Statement.{statement}

@@ -1,7 +1,8 @@
 -- The test at each page.
 -- Assumes nothing.
 use Rattle.model.specs.RuleTests.{rule2?}
-use Rattle.rules.specs.Places.{test, pageKept, pageOf}
+use Rattle.rules.specs.Tests.{test}
+use Rattle.places.specs.Places.{pageKept, pageOf}
 use borrow.Author.Needs.{needs}
 use Rattle.rules.proofs.rule2.Statement.{statement}
 use Rattle.rules.proofs.rule2.Tie as tie

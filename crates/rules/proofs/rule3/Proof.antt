@@ -3,7 +3,7 @@
 use mathlib.Core.Path.{_∙_}
 use Rattle.host.specs.View.{view}
 use Rattle.host.proofs.Inverse.{view-sized}
-use Rattle.rules.specs.Places.{test}
+use Rattle.rules.specs.Tests.{test}
 use Rattle.rules.proofs.Rules.{rule3-is}
 use borrow.Author.Needs.{needs}
 use Rattle.rules.proofs.rule3.Statement.{statement}
@@ -25,7 +25,7 @@ returns : tie.Need-returns
 unfolding test
 returns c =
     let h = c .before .before .before .args .h .now in
-    cc (rule3-is (view h) (view-sized h (c .before .before .whole .ensures)))
+    rw (c .all2 .ensures, c .before .all .ensures) (rule3-is (view h) (view-sized h (c .before .before .whole .ensures)))
 
 pub rule3-spec : {M : Type 1} → statement M
 rule3-spec = tie.close (tie.spec whole-requires mul-all all-requires all-requires-2 returns)

@@ -3,7 +3,7 @@
 use mathlib.Core.Path.{_∙_}
 use Rattle.host.specs.View.{view}
 use Rattle.host.proofs.Inverse.{view-sized}
-use Rattle.rules.specs.Places.{entryTest}
+use Rattle.rules.specs.Tests.{entryTest}
 use Rattle.rules.proofs.Rules.{rule4-is}
 use borrow.Author.Needs.{needs}
 use Rattle.rules.proofs.rule4.Statement.{statement}

@@ -1,7 +1,8 @@
 -- The test at each guest.
 -- Assumes nothing.
 use Rattle.model.specs.RuleTests.{rule5?}
-use Rattle.rules.specs.Places.{test, currentTable}
+use Rattle.rules.specs.Tests.{test}
+use Rattle.places.specs.Places.{currentTable}
 use borrow.Author.Needs.{needs}
 use Rattle.rules.proofs.rule5.Statement.{statement}
 use Rattle.rules.proofs.rule5.Tie as tie

@@ -3,8 +3,8 @@
 use mathlib.Core.Path.{_∙_}
 use Rattle.host.specs.View.{view}
 use Rattle.host.proofs.Inverse.{view-sized}
-use Rattle.rules.specs.Places.{test}
-use Rattle.rules.proofs.Shared.{rule6-is}
+use Rattle.rules.specs.Tests.{test}
+use Rattle.entries.proofs.Shared.{rule6-is}
 use borrow.Author.Needs.{needs}
 use Rattle.rules.proofs.rule6.Statement.{statement}
 use Rattle.rules.proofs.rule6.Tie as tie

@@ -3,7 +3,7 @@
 use mathlib.Core.Path.{_∙_}
 use Rattle.host.specs.View.{view}
 use Rattle.host.proofs.Inverse.{view-sized}
-use Rattle.rules.specs.Places.{test}
+use Rattle.rules.specs.Tests.{test}
 use Rattle.rules.proofs.Rules.{rule7-is}
 use borrow.Author.Needs.{needs}
 use Rattle.rules.proofs.rule7.Statement.{statement}

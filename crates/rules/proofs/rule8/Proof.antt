@@ -2,7 +2,7 @@
 -- Assumes nothing.
 use mathlib.Core.Path.{_∙_}
 use Rattle.host.specs.View.{view}
-use Rattle.rules.specs.Places.{test}
+use Rattle.rules.specs.Tests.{test}
 use Rattle.rules.proofs.Rules.{rule8-is}
 use borrow.Author.Needs.{needs}
 use Rattle.rules.proofs.rule8.Statement.{statement}

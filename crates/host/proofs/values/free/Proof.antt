@@ -27,7 +27,7 @@ add-result : tie.Need-add-result
 add-result c = search needs
 
 returns : tie.Need-returns
-returns c = cc (free-get (c .before .before .args .h .now))
+returns c = rw (c .word2 .ensures, c .before .word .ensures) (free-get (c .before .before .args .h .now))
 
 pub free-spec : {M : Type 1} → statement M
 free-spec =

@@ -1,11 +1,9 @@
--- The ones of a number are its marks.
+-- The map is counted.
 -- Assumes nothing.
 use mathlib.Core.Path.{ap, _∙_}
-use Prim.Native.Nat.{ℕ, _^_, _<_}
-use native.Mathlib.Omega.{arith}
+use Prim.Native.Nat.{ℕ}
 use Rattle.laws.specs.Bits.{marks}
 use Rattle.laws.specs.Search.{countBelow}
-use Rattle.laws.proofs.Bits.{ones-count}
 use Rattle.model.specs.Sizes.{pages}
 use borrow.Author.Needs.{needs}
 use Rattle.host.proofs.values.free_pages.Statement.{statement}
@@ -14,11 +12,11 @@ use Rattle.host.proofs.values.free_pages.Tie as tie
 free-requires : tie.Need-free-requires
 free-requires c κs = search needs
 
+count-requires : tie.Need-count-requires
+count-requires c κs = search needs
+
 returns : tie.Need-returns
-returns c =
-    let m = c .free .result in
-    let h : m < 2 ^ pages = omega arith in
-    ones-count pages m h ∙ ap (λ (x : ℕ). countBelow pages (marks x)) (c .free .ensures)
+returns c = c .count .ensures ∙ ap (λ (x : ℕ). countBelow pages (marks x)) (c .before .free .ensures)
 
 pub free-pages-spec : {M : Type 1} → statement M
-free-pages-spec = tie.close (tie.spec free-requires returns)
+free-pages-spec = tie.close (tie.spec free-requires count-requires returns)

@@ -1,7 +1,11 @@
 -- Two numbers of four bytes stored are the map.
 -- Assumes nothing.
 use mathlib.Core.Path.{ap, _∙_}
-use Rattle.host.specs.View.{view}
+use mathlib.Core.List.{List}
+use Prim.Native.Nat.{ℕ, _+_, _/_, _^_}
+use Rattle.model.specs.Sizes.{byteBound}
+use Rattle.host.specs.Cut.{begin, setWord}
+use Rattle.host.specs.View.{sizes, freeField, view}
 use Rattle.host.proofs.Numbers.{free-put}
 use borrow.Author.Needs.{needs}
 use Rattle.host.proofs.values.set_free.Statement.{statement}
@@ -29,7 +33,7 @@ returns : tie.Need-returns
 returns c =
     let w = c .before .before .before .before in
     let s = w .before .before in
-    ap view (cc) ∙ free-put (s .args .h .now) (s .args .v) (w .whole .ensures .long)
+    ap view (c .set-word2 .ensures ∙ ap (λ (x : List ℕ). setWord x (begin sizes freeField + 4) (s .args .v / byteBound ^ 4)) (c .before .before .set-word .ensures)) ∙ free-put (s .args .h .now) (s .args .v) (w .whole .ensures .long)
 
 pub set-free-spec : {M : Type 1} → statement M
 set-free-spec =

@@ -1,0 +1,49 @@
+-- Rule 9 is its tests of set 7, and the table in force is what code reads.
+-- Assumes nothing.
+use mathlib.Core.Path.{_≡_, sym, ap, _∙_}
+use mathlib.Core.Bool.{Bool, true, _&&_}
+use Prim.Native.Nat.{ℕ, suc, _+_, _*_, _<_}
+use native.Mathlib.Omega.{arith}
+use lib.Dec.{ltb, eqb}
+use borrow.Author.Tests.{ltb-true}
+use Rattle.laws.specs.Choice.{pick, at}
+use Rattle.laws.specs.Search.{allBelow}
+use Rattle.laws.proofs.Cases.{split, same?}
+use Rattle.model.specs.Sizes.{guests, physicals, pages, ways, stealth, stealthSet}
+use Rattle.model.specs.State.{State, kindTable, lead, isPage, nowhere, table, lineAt, stealthLine}
+use Rattle.model.specs.History.{start}
+use Rattle.model.specs.RuleTests.{stealthPage, rule9?}
+use Rattle.lines.specs.Lines.{firstWay}
+use Rattle.seek.proofs.Loops.{all-made, all-fails}
+use Rattle.seek.proofs.Leading.{leads-at}
+
+-- ---- 9
+
+pub two : (f : ℕ → Bool) → allBelow ways f ≡ (f 0 && f 1)
+two f = split (f 0) (λ e. split (f 1) (λ d. all-made f ways (λ i h. both e d i h) ∙ sym (rw (e, d))) (λ d. all-fails f ways 1 (omega arith) d ∙ sym (rw (e, d)))) (λ e. all-fails f ways 0 (omega arith) e ∙ sym (rw e))
+  where
+    both : f 0 ≡ true → f 1 ≡ true → (i : ℕ) → i < ways → f i ≡ true
+    both e d i h = same? i 0 (λ q. ap f q ∙ e) (λ q. let z : i ≡ 1 = omega arith in ap f z ∙ d)
+
+pub rule9-is : (s : State)
+    → (firstWay s (stealthPage (s .shape .pages .entry) (table (s .shape))) && eqb (at (s .shape .cache .linePage) (lineAt stealthSet 1)) 0 && eqb (at (s .shape .cache .history) stealthSet) start)
+    ≡ rule9? (s .shape .pages .entry) (s .shape .cache .lineAddress) (s .shape .cache .linePage) (s .shape .cache .history) (table (s .shape))
+unfolding rule9? firstWay
+rule9-is s =
+    let p = stealthPage (s .shape .pages .entry) (table (s .shape)) in
+    let l = at (s .shape .cache .linePage) in
+    let x = eqb (at (s .shape .cache .lineAddress) stealthLine) stealth in
+    ap (λ (b : Bool). b && eqb (l (lineAt stealthSet 1)) 0 && eqb (at (s .shape .cache .history) stealthSet) start)
+    (split (isPage p)
+    (λ e. ap (λ (b : Bool). pick (isPage p) (b && x) (eqb (l stealthLine) 0)) (leads-at (l stealthLine) p (ltb-true p pages e)))
+    (λ e. rw e))
+    ∙ ap (λ (b : Bool). b && eqb (at (s .shape .cache .history) stealthSet) start)
+    (sym (two (λ w. pick (eqb w 0 && isPage p) (eqb (l stealthLine) (suc p) && x) (eqb (l (lineAt stealthSet w)) 0))))
+
+-- ---- the table in force
+
+pub in-force : (s : State) (g a m k : ℕ) → g ≡ s .shape .guests .active → a ≡ at (s .shape .guests .current) g
+    → m ≡ lead (at (s .shape .pages .physical) (physicals * g + a)) → k ≡ at (s .shape .pages .kind) m
+    → table (s .shape) ≡ pick (ltb a physicals && eqb k kindTable) m nowhere
+unfolding table
+in-force s g a m k p q r t = rw (t, r, q, p)

@@ -1,0 +1,96 @@
+// What rule 10 tests at one place: numbers in range, empty places zero.
+use host::Guest;
+use host::HISTORIES;
+use host::Host;
+use host::KIND_TABLE;
+use host::Lead;
+use host::MARKS;
+use host::Ma;
+use host::OWNER_GUEST;
+use host::Pa;
+use host::Va;
+ghost use mathlib.Core.Path.{_≡_};
+ghost use Prim.Native.Nat.{_+_, _*_, _/_, _%_, _<_};
+ghost use Rattle.host.specs.View.{view};
+ghost use Rattle.seek.specs.Leads.{placed};
+ghost use Rattle.ranges.specs.Ranges.{pageInRange, placeInRange, guestInRange, lineInRange, setInRange, slotInRange, entryInRange};
+
+const ADDRESSES: u8 = host::ADDRESSES as u8;
+
+const GUESTS: u8 = host::GUESTS as u8;
+
+const PHYSICALS: u8 = host::PHYSICALS as u8;
+
+// A page or empty.
+fn placed_at(l: Lead, empty: bool) -> bool
+    ensures { λ r. ⌜ r ≡ placed l empty ⌝ }
+{
+    match l {
+        Lead::To(_) => true,
+        Lead::Nowhere => empty,
+    }
+}
+
+pub fn page_in_range(h: &Host, p: Ma) -> bool
+    ensures { λ r. ⌜ r ≡ pageInRange (view (now (h .entry))) (p .0) ⌝ }
+{
+    (host::owner(h, p) < OWNER_GUEST + GUESTS)
+        & (host::kind(h, p) < KIND_TABLE + 1)
+        & (host::cacheable(h, p) < MARKS)
+}
+
+pub fn place_in_range(h: &Host, i: u8) -> bool
+    ensures { λ r. ⌜ r ≡ placeInRange (view (now (h .entry))) i ⌝ }
+{
+    let g = Guest(i / PHYSICALS);
+    let a = Pa(i % PHYSICALS);
+    placed_at(host::physical(h, g, a), host::physical_empty(h, g, a))
+}
+
+pub fn guest_in_range(h: &Host, g: Guest) -> bool
+    ensures { λ r. ⌜ r ≡ guestInRange (view (now (h .entry))) (g .0) ⌝ }
+{
+    let t = host::current(h, g);
+    let c = host::call(h, g);
+    let a = host::call_a(h, g);
+    let b = host::call_b(h, g);
+    (t.0 < PHYSICALS)
+        & (c < records::CALLS)
+        & (a < ADDRESSES)
+        & (b < PHYSICALS)
+        & places::fits_call(c, a, b)
+}
+
+pub fn line_in_range(h: &Host, i: u8) -> bool
+    ensures { λ r. ⌜ r ≡ lineInRange (view (now (h .entry))) i ⌝ }
+{
+    let k = i as usize;
+    let a = host::line_address(h, k);
+    let empty = host::line_empty(h, k);
+    let placed = placed_at(host::line_page(h, k), empty);
+    let zeros = seek::implies(empty, (a.0 == 0) & (host::line_value(h, k) == 0));
+    (a.0 < ADDRESSES) & placed & zeros
+}
+
+pub fn set_in_range(h: &Host, k: u8) -> bool
+    ensures { λ r. ⌜ r ≡ setInRange (view (now (h .entry))) k ⌝ }
+{
+    host::history(h, k as usize) < HISTORIES
+}
+
+pub fn slot_in_range(h: &Host, i: u8) -> bool
+    ensures { λ r. ⌜ r ≡ slotInRange (view (now (h .entry))) i ⌝ }
+{
+    let k = i as usize;
+    let a = host::slot_address(h, k);
+    let empty = host::slot_empty(h, k);
+    let placed = placed_at(host::slot_page(h, k), empty);
+    let zeros = seek::implies(empty, a.0 == 0);
+    (a.0 < ADDRESSES) & placed & zeros
+}
+
+pub fn entry_in_range(h: &Host, m: Ma, a: Va) -> bool
+    ensures { λ r. ⌜ r ≡ entryInRange (view (now (h .entry))) (m .0) (a .0) ⌝ }
+{
+    placed_at(host::entry(h, m, a), host::entry_empty(h, m, a))
+}

@@ -1,0 +1,36 @@
+-- To what a place leads, and what is sought among places.
+-- Assumes nothing.
+use mathlib.Core.Bool.{Bool, true, false, _&&_, not}
+use Prim.Native.Nat.{ℕ, _+_, _*_}
+use lib.Dec.{eqb}
+use Rattle.laws.specs.Choice.{at, _⇒_}
+use Rattle.model.specs.Sizes.{physicals, pages}
+use Rattle.model.specs.State.{State, nowhere}
+use Rattle.host.specs.Lead.{leadOf}
+use Rattle.host.specs.declared.Lead.{Lead}
+use Rattle.host.specs.declared.Lead.the-variants.{To, Nowhere}
+use Rattle.seek.specs.declared.Sought.{Sought}
+use Rattle.seek.specs.declared.Sought.the-variants.{HeldAgain, HeldAt, KeyAgain}
+
+-- as the model's number
+abbrev pub number : Lead → ℕ
+number (To p) = p .0
+number Nowhere = nowhere
+
+-- to page p
+abbrev pub leadsAt : Lead → ℕ → Bool
+leadsAt (To q) p = eqb (q .0) p
+leadsAt Nowhere p = false
+
+-- to a page, or the place is empty
+abbrev pub placed : Lead → Bool → Bool
+placed (To p) empty = true
+placed Nowhere empty = empty
+
+-- ---- searches
+
+unfoldable pub sought : Sought → State → ℕ → Bool
+sought (HeldAgain g a p) s i = not (leadsAt (leadOf (at (s .shape .pages .physical) (physicals * g .0 + i))) (p .0) ⇒ eqb (a .0) i)
+sought (HeldAt g p) s i = leadsAt (leadOf (at (s .shape .pages .physical) (physicals * g .0 + i))) (p .0)
+sought (KeyAgain j a p) s i =
+    not (leadsAt (leadOf (at (s .shape .cache .linePage) i)) (p .0) && eqb (a .0) (at (s .shape .cache .lineAddress) i) ⇒ eqb j i)
