@@ -10,7 +10,8 @@ use Rattle.laws.specs.Bits.{bit, marks}
 use Rattle.laws.proofs.Cases.{below?}
 use Rattle.laws.proofs.Search.{Each, firstBelow-found, firstBelow-least}
 use Rattle.model.specs.Sizes.{guests, physicals, pages, addresses, stealth}
-use Rattle.model.specs.State.{State, active, mapped, here, kindData, kindTable}
+use Rattle.model.specs.Names.{kindData, kindTable}
+use Rattle.model.specs.State.{State, active, mapped, here}
 use Rattle.model.specs.Fresh.{fresh}
 use Rattle.model.specs.Records.{Action, silent, read, readHyper, write, writeHyper, new, newSm, del, switch, lswitch, hcall, retCtrl, chmod, pin, unpin, InRange, Bytes}
 use Rattle.model.specs.Rules.{Maps}

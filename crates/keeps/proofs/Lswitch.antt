@@ -7,7 +7,8 @@ use lib.ListN.{set}
 use Rattle.laws.specs.Choice.{at}
 use Rattle.laws.proofs.Lists.{at-set}
 use Rattle.model.specs.Sizes.{physicals, pages}
-use Rattle.model.specs.State.{State, kindTable, active, here}
+use Rattle.model.specs.Names.{kindTable}
+use Rattle.model.specs.State.{State, active, here}
 use Rattle.model.specs.Parts.{setCurrent, takeOut}
 use Rattle.model.specs.Lswitch.{lswitchStep}
 use Rattle.model.specs.Rules.{Registered, Rule5}

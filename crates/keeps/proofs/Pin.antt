@@ -9,7 +9,8 @@ use Rattle.laws.specs.Bits.{bit, unmarked}
 use Rattle.laws.proofs.Cases.{same?}
 use Rattle.laws.proofs.Bits.{unmarked-same, unmarked-other, unmarked-below}
 use Rattle.model.specs.Sizes.{physicals, pages, pinKinds}
-use Rattle.model.specs.State.{State, ownerNone, ownerGuest, kindNone, active}
+use Rattle.model.specs.Names.{ownerNone, ownerGuest, kindNone}
+use Rattle.model.specs.State.{State, active}
 use Rattle.model.specs.Pin.{pinStep}
 use Rattle.model.specs.Valid.{Valid}
 use Rattle.keeps.proofs.Core.{Core, core-of, mapped-page}

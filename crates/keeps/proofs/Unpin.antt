@@ -8,7 +8,8 @@ use Rattle.laws.specs.Choice.{at}
 use Rattle.laws.specs.Bits.{marked}
 use Rattle.laws.proofs.Bits.{marked-same, marked-other, marked-below}
 use Rattle.model.specs.Sizes.{physicals, pages, addresses}
-use Rattle.model.specs.State.{State, ownerNone, ownerGuest, kindNone, active}
+use Rattle.model.specs.Names.{ownerNone, ownerGuest, kindNone}
+use Rattle.model.specs.State.{State, active}
 use Rattle.model.specs.Rules.{Maps}
 use Rattle.model.specs.Unpin.{unpinStep}
 use Rattle.model.specs.Valid.{Valid}

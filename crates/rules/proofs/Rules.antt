@@ -15,7 +15,8 @@ use Rattle.laws.proofs.Tests.{eq⇔, and⇔, as⇔}
 use Rattle.laws.proofs.Search.{some⇔}
 use Rattle.laws.proofs.Grid.{place-of}
 use Rattle.model.specs.Sizes.{guests, physicals, pages, addresses, lines, ways, slots, stealth, stealthSet, setOf, slotOf}
-use Rattle.model.specs.State.{State, ownerGuest, kindData, kindTable, lead, isPage, nowhere, table, lineAt, stealthLine, mapsPage}
+use Rattle.model.specs.Names.{ownerGuest, kindData, kindTable}
+use Rattle.model.specs.State.{State, lead, isPage, nowhere, table, lineAt, stealthLine, mapsPage}
 use Rattle.model.specs.History.{start}
 use Rattle.model.specs.Rules.{Maps}
 use Rattle.model.specs.Valid.{Sized}
