@@ -19,7 +19,7 @@ use Rattle.keeps.proofs.Handover.{Idle, Becomes, handed-valid}
 
 module _ {s : State} (c : Core s) {pa p : ℕ} (ha : pa < physicals) (hp : p < pages) where
   -- a free page has neither owner nor kind, so that no rule leads to it
-  free-idle : bit (s .shape .pages .free) p ≡ 1 → at (s .shape .pages .physical) (physicals * active (s .shape) + pa) ≡ 0
+  pub free-idle : bit (s .shape .pages .free) p ≡ 1 → at (s .shape .pages .physical) (physicals * active (s .shape) + pa) ≡ 0
       → Idle s p (physicals * active (s .shape) + pa)
   free-idle isFree empty =
       record {
