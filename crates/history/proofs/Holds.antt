@@ -6,7 +6,7 @@ use mathlib.Core.Logic.{_≢_, ⊎-elim}
 use mathlib.Core.List.{List}
 use Prim.Native.Nat.{ℕ, suc, _<_}
 use native.Mathlib.Omega.{arith}
-use lib.ListN.{set}
+use lib.ListN.{length, set}
 use borrow.Author.Tests.{lt-ltb}
 use Rattle.laws.specs.Choice.{pick, at}
 use Rattle.laws.proofs.Cases.{split, same?, below?}
@@ -75,15 +75,15 @@ takeOut-holds {s} c i {p} {x} hp h =
     other : at page i ≢ suc p → p ≢ lead (at page i)
     other d w = d (lead-holds (at page i) (omega arith) ∙ ap suc (sym w))
 
-pub takeOutPage-holds : {s : State} → Core s → (q : ℕ) {p x : ℕ} → p < pages → HoldsIn s p x → HoldsIn (takeOutPage s q) p x
+pub takeOutPage-holds : (s : State) → length (s .values .memory) ≡ pages → (q : ℕ) {p x : ℕ} → p < pages → HoldsIn s p x → HoldsIn (takeOutPage s q) p x
 unfolding takeOutPage
-takeOutPage-holds {s} c q {p} {x} hp h =
+takeOutPage-holds s size q {p} {x} hp h =
     record {
       inLine = λ j hj e.
           let d = left page q page j p hj e in
           kept page q (s .values .line) j hj (λ w. d .1 (omega (arith, d .0))) ∙ h .inLine j hj (d .0);
       inMemory = λ n. same? p q
-          (λ e. rw (← e) (at-same memory p (present s p) (omega (arith, c .sized .memory)) ∙ holds-present s h))
+          (λ e. rw (← e) (at-same memory p (present s p) (omega arith) ∙ holds-present s h))
           (λ d. at-other memory q (present s q) p d ∙ h .inMemory (λ j hj e. n j hj (kept page q page j hj (λ w. d (omega arith)) ∙ e)));
     }
   where

@@ -52,7 +52,7 @@ module _ {s : State} (v : Valid s) (pa : ℕ) (hpa : pa < physicals) (page : her
       (λ j p hj e a. unheld p) c
 
   -- the table in force led nowhere from the stealth address, so the stealth set is empty
-  pub stored-unloaded : Unloaded (s .shape .cache)
+  stored-unloaded : Unloaded (s .shape .cache)
   stored-unloaded = record { empty = v .rule9 .empty (λ p l. unheld p (l .holds)); alone = v .rule9 .alone; begun = v .rule9 .begun }
 
   stored-leads : Leads (stored .shape .pages .entry) (table (stored .shape)) stealth (here (s .shape) pa)
