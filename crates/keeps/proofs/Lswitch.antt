@@ -38,7 +38,7 @@ module _ {s : State} (v : Valid s) (pa : ℕ) (h : pa < physicals) (page : here 
             (λ n. v .rule5 .currents g hg);
       }
 
-  current-part : GuestsOf (s .shape) (setCurrent (s .shape) pa .guests)
+  pub current-part : GuestsOf (s .shape) (setCurrent (s .shape) pa .guests)
   current-part =
       record {
         current = size-set (s .shape .guests .current) (active (s .shape)) pa (v .sized .current);
