@@ -4,3 +4,4 @@ pub mod Quiet
 pub mod Access
 pub mod Turns
 pub mod Mapping
+pub mod Pinning
