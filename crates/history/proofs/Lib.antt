@@ -5,3 +5,5 @@ pub mod Access
 pub mod Turns
 pub mod Mapping
 pub mod Pinning
+pub mod Books
+pub mod Step

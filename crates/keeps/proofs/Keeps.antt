@@ -42,7 +42,7 @@ use Rattle.keeps.proofs.NewSm.{newSmStep-valid}
 
 module _ {s : State} (v : Valid s) where
   -- the lowest free page is one
-  lowest-free : {p : ℕ} → p < pages → bit (s .shape .pages .free) p ≡ 1
+  pub lowest-free : {p : ℕ} → p < pages → bit (s .shape .pages .free) p ≡ 1
       → (lowestFree (s .shape .pages .free) < pages) × (bit (s .shape .pages .free) (lowestFree (s .shape .pages .free)) ≡ 1)
   unfolding lowestFree
   lowest-free {p} h e =
@@ -52,7 +52,7 @@ module _ {s : State} (v : Valid s) where
       (b, eqb-true (bit f (lowestFree f)) 1 (firstBelow-found (marks f) pages b))
 
   -- a physical address that leads to no page is empty
-  unused : {pa : ℕ} → pa < physicals → ((p : ℕ) → At (s .shape) pa p → ⊥) → at (s .shape .pages .physical) (physicals * active (s .shape) + pa) ≡ 0
+  pub unused : {pa : ℕ} → pa < physicals → ((p : ℕ) → At (s .shape) pa p → ⊥) → at (s .shape .pages .physical) (physicals * active (s .shape) + pa) ≡ 0
   unused {pa} h n =
       let i = physicals * active (s .shape) + pa in
       below? (here (s .shape) pa) pages (λ b. absurd (n (here (s .shape) pa) (at-here (s .shape) pa b)))
