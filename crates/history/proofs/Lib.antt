@@ -7,3 +7,5 @@ pub mod Mapping
 pub mod Pinning
 pub mod Books
 pub mod Step
+pub mod Places
+pub mod Counts
