@@ -9,3 +9,5 @@ pub mod Books
 pub mod Step
 pub mod Places
 pub mod Counts
+pub mod Runs
+pub mod Fresh

@@ -38,7 +38,8 @@ freshBook =
 
 pub data Deed : Type 0 where
   quiet : Deed  -- nothing
-  wrote : ℕ → ℕ → Deed  -- at a virtual address of the active guest, a value: the guest itself, or the host for it
+  looked : ℕ → Deed  -- at a virtual address of the active guest: the guest itself, or the host for it
+  wrote : ℕ → ℕ → Deed  -- likewise at a virtual address, a value
   linked : ℕ → Option ℕ → Deed  -- the current table leads from a virtual address to a physical one, or to none
   switched : ℕ → Deed  -- this guest is the active one
   tabled : ℕ → Deed  -- the table at this physical address is the active guest's current one
@@ -47,8 +48,8 @@ pub data Deed : Type 0 where
 
 abbrev pub deedOf : Action → Deed
 deedOf silent = quiet
-deedOf (read va) = quiet
-deedOf (readHyper va) = quiet
+deedOf (read va) = looked va
+deedOf (readHyper va) = looked va
 deedOf (write va v) = wrote va v
 deedOf (writeHyper va v) = wrote va v
 deedOf (new va pa) = linked va (some pa)
@@ -72,6 +73,7 @@ activeIn b (x ∷ past) =
     elim (deedOf x) [
       | switched g ↦ g
       | quiet ↦ before
+      | looked vb ↦ before
       | wrote va v ↦ before
       | linked va o ↦ before
       | tabled pa ↦ before
@@ -87,6 +89,7 @@ currentIn b (x ∷ past) g =
     elim (deedOf x) [
       | tabled pa ↦ pick (eqb g (activeIn b past)) pa before
       | quiet ↦ before
+      | looked vb ↦ before
       | wrote va v ↦ before
       | linked va o ↦ before
       | switched h ↦ before
@@ -107,6 +110,7 @@ kindIn b (x ∷ past) g pa =
       | pinned qa k ↦ pick (isOwn b past g pa qa) k before
       | unpinned qa ↦ pick (isOwn b past g pa qa) kindNone before
       | quiet ↦ before
+      | looked vb ↦ before
       | wrote va v ↦ before
       | linked va o ↦ before
       | switched h ↦ before
@@ -126,6 +130,7 @@ linkIn b (x ∷ past) g pt va =
       | linked vb o ↦ pick (isOwn b past g pt (tableIn b past) && eqb va vb) o before
       | pinned qa k ↦ pick (isOwn b past g pt qa) none before
       | quiet ↦ before
+      | looked vb ↦ before
       | wrote vb v ↦ before
       | switched h ↦ before
       | tabled qa ↦ before
@@ -149,6 +154,7 @@ valueIn b (x ∷ past) g pa =
       | wrote va v ↦ pick (eqb g (activeIn b past) && isTo (targetIn b past va) pa) v before
       | pinned qa k ↦ pick (isOwn b past g pa qa) 0 before
       | quiet ↦ before
+      | looked vb ↦ before
       | linked va o ↦ before
       | switched h ↦ before
       | tabled qa ↦ before
@@ -163,6 +169,7 @@ pinsIn b (x ∷ past) g =
     elim (deedOf x) [
       | pinned pa k ↦ before + pick (eqb g (activeIn b past)) 1 0
       | quiet ↦ before
+      | looked vb ↦ before
       | wrote va v ↦ before
       | linked va o ↦ before
       | switched h ↦ before
@@ -177,6 +184,7 @@ unpinsIn b (x ∷ past) g =
     elim (deedOf x) [
       | unpinned pa ↦ before + pick (eqb g (activeIn b past)) 1 0
       | quiet ↦ before
+      | looked vb ↦ before
       | wrote va v ↦ before
       | linked va o ↦ before
       | switched h ↦ before
@@ -201,23 +209,19 @@ bookAfter b past =
 abbrev pub readIn : Book → Past → ℕ → ℕ
 readIn b past va = elim (targetIn b past va) [ none ↦ 0 | some pa ↦ valueIn b past (activeIn b past) pa ]
 
--- the value that an accepted action answers
+-- the value that an accepted action answers: a read's what is read, every other's 0
 abbrev pub answerIn : Book → Past → Action → ℕ
-answerIn b past silent = 0
-answerIn b past (read va) = readIn b past va
-answerIn b past (readHyper va) = readIn b past va
-answerIn b past (write va v) = 0
-answerIn b past (writeHyper va v) = 0
-answerIn b past (new va pa) = 0
-answerIn b past (newSm pa) = 0
-answerIn b past (del va) = 0
-answerIn b past (switch g) = 0
-answerIn b past (lswitch pa) = 0
-answerIn b past (hcall c x y) = 0
-answerIn b past retCtrl = 0
-answerIn b past chmod = 0
-answerIn b past (pin pa k) = 0
-answerIn b past (unpin pa) = 0
+answerIn b past x =
+    elim (deedOf x) [
+      | looked va ↦ readIn b past va
+      | quiet ↦ 0
+      | wrote va v ↦ 0
+      | linked va o ↦ 0
+      | switched g ↦ 0
+      | tabled pa ↦ 0
+      | pinned pa k ↦ 0
+      | unpinned pa ↦ 0
+    ]
 
 -- ---- records and the numbers of their answers
 
