@@ -11,3 +11,4 @@ pub mod Places
 pub mod Counts
 pub mod Runs
 pub mod Fresh
+pub mod Rations
