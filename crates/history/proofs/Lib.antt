@@ -12,3 +12,4 @@ pub mod Counts
 pub mod Runs
 pub mod Fresh
 pub mod Rations
+pub mod Samples

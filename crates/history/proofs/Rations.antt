@@ -3,10 +3,13 @@
 use mathlib.Core.Path.{_≡_, refl, sym, ap, _∙_}
 use mathlib.Core.List.{List, []}
 use mathlib.Core.Option.{some}
-use Prim.Native.Nat.{ℕ, _+_, _<_}
+use Prim.Native.Nat.{ℕ, zero, suc, _+_, _*_, _<_}
+use native.Mathlib.Omega.{arith}
+use Rattle.laws.specs.Choice.{at}
 use Rattle.laws.proofs.Search.{Each}
-use Rattle.model.specs.Sizes.{guests}
-use Rattle.model.specs.State.{State}
+use Rattle.model.specs.Sizes.{guests, physicals}
+use Rattle.model.specs.Names.{kindData}
+use Rattle.model.specs.State.{State, present}
 use Rattle.model.specs.Fresh.{fresh}
 use Rattle.model.specs.Records.{Bytes}
 use Rattle.model.specs.Valid.{Valid}
@@ -16,12 +19,23 @@ use Rattle.keeps.specs.Allowed.{Accepts}
 use Rattle.keeps.proofs.Fresh.{fresh-valid}
 use Rattle.keeps.proofs.Answers.{accepted-outcome}
 use Rattle.history.specs.Past.{Book, freshBook, activeIn, currentIn, kindIn, linkIn, valueIn, pinsIn, unpinsIn, answerIn}
-use Rattle.history.specs.Agrees.{Agrees}
+use Rattle.history.specs.Agrees.{Has, Agrees}
 use Rattle.history.specs.Rations.{owned, pastOf, Rations}
 use Rattle.history.proofs.Step.{value-agrees}
 use Rattle.history.proofs.Places.{one-place, guest-owner, all-pages, host-zero}
 use Rattle.history.proofs.Runs.{Tells, run-tells, run-values}
 use Rattle.history.proofs.Fresh.{fresh-agrees, fresh-owned}
+
+-- where the book has a data page, the state has one, with the book's value
+data-kept : {s : State} {b : Book} → Agrees s b → (g pa : ℕ) → g < guests → pa < physicals → b .kind g pa ≡ kindData
+    → (p : ℕ) × Has (s .shape .pages .physical) g pa p × (present s p ≡ b .value g pa)
+data-kept {s} {b} a g pa hg ha k = go (at (s .shape .pages .physical) (physicals * g + pa)) refl
+  where
+    go : (e : ℕ) → at (s .shape .pages .physical) (physicals * g + pa) ≡ e → (p : ℕ) × Has (s .shape .pages .physical) g pa p × (present s p ≡ b .value g pa)
+    go zero e = absurd (omega (arith, k, a .chart .none g pa hg ha e))
+    go (suc p) e =
+        let h : Has (s .shape .pages .physical) g pa p = record { guest = hg; address = ha; holds = e } in
+        (p, h, a .value g pa p h (sym (a .chart .kind g pa p h) ∙ k))
 
 module _ {s : State} (v : Valid s) {b : Book} (a : Agrees s b) where
   start : Tells (owned (s .shape)) b [] s
@@ -36,6 +50,7 @@ module _ {s : State} (v : Valid s) {b : Book} (a : Agrees s b) where
         whole = all-pages (t .valid);
         places = one-place (t .valid);
         owners = guest-owner (t .valid);
+        kept = data-kept (t .agrees);
         guestValues = t .agrees .value;
         hostValues = host-zero (t .valid);
         answers = run-values start rs w;

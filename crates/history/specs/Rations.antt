@@ -9,12 +9,12 @@ use lib.Count.{ones}
 use Rattle.laws.specs.Choice.{at}
 use Rattle.laws.specs.Bits.{bit}
 use Rattle.laws.specs.Search.{countBelow, sumBelow}
-use Rattle.model.specs.Sizes.{guests, pages, hostPages, firstHostPage, firstFreePage}
+use Rattle.model.specs.Sizes.{guests, physicals, pages, hostPages, firstHostPage, firstFreePage}
 use Rattle.model.specs.Names.{ownerGuest, kindData}
 use Rattle.model.specs.State.{Shape, State, present}
 use Rattle.model.specs.Step.{numberOf, valueOf}
 use Rattle.model.specs.Run.{run}
-use Rattle.history.specs.Past.{Past, Book, valueIn, pinsIn, unpinsIn, bookAfter, pastAfter, valuesAfter}
+use Rattle.history.specs.Past.{Past, Book, kindIn, valueIn, pinsIn, unpinsIn, bookAfter, pastAfter, valuesAfter}
 use Rattle.history.specs.Agrees.{Has, Agrees}
 
 -- ---- a run, and its past
@@ -63,7 +63,10 @@ pub record Rations (b : Book) (s : State) (rs : List (List ℕ)) : Type 0 where
   pub places : (p : ℕ) → p < pages → OnePlace (run s rs .state .shape) p
   pub owners : (g p : ℕ) → g < guests → p < pages
       → (at (run s rs .state .shape .pages .owner) p ≡ ownerGuest g) ↔ ((pa : ℕ) × Has (run s rs .state .shape .pages .physical) g pa p)
-  -- Values: a guest's data page holds what its past says, a host page 0.
+  -- Values: where its past says that a guest has a data page, it has one, which holds the value that its past says. So does every data page that
+  -- it has. A host page holds 0.
+  pub kept : (g pa : ℕ) → g < guests → pa < physicals → kindIn b (pastOf s rs) g pa ≡ kindData
+      → (p : ℕ) × Has (run s rs .state .shape .pages .physical) g pa p × (present (run s rs .state) p ≡ valueIn b (pastOf s rs) g pa)
   pub guestValues : (g pa p : ℕ) → Has (run s rs .state .shape .pages .physical) g pa p → at (run s rs .state .shape .pages .kind) p ≡ kindData
       → present (run s rs .state) p ≡ valueIn b (pastOf s rs) g pa
   pub hostValues : (p : ℕ) → firstHostPage ≤ p → p < firstFreePage → present (run s rs .state) p ≡ 0
