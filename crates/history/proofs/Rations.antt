@@ -27,9 +27,9 @@ use Rattle.history.proofs.Runs.{Tells, run-tells, run-values}
 use Rattle.history.proofs.Fresh.{fresh-agrees, fresh-owned}
 
 -- where the book has a data page, the state has one, with the book's value
-data-kept : {s : State} {b : Book} → Agrees s b → (g pa : ℕ) → g < guests → pa < physicals → b .kind g pa ≡ kindData
+data-found : {s : State} {b : Book} → Agrees s b → (g pa : ℕ) → g < guests → pa < physicals → b .kind g pa ≡ kindData
     → (p : ℕ) × Has (s .shape .pages .physical) g pa p × (present s p ≡ b .value g pa)
-data-kept {s} {b} a g pa hg ha k = go (at (s .shape .pages .physical) (physicals * g + pa)) refl
+data-found {s} {b} a g pa hg ha k = go (at (s .shape .pages .physical) (physicals * g + pa)) refl
   where
     go : (e : ℕ) → at (s .shape .pages .physical) (physicals * g + pa) ≡ e → (p : ℕ) × Has (s .shape .pages .physical) g pa p × (present s p ≡ b .value g pa)
     go zero e = absurd (omega (arith, k, a .chart .none g pa hg ha e))
@@ -46,15 +46,18 @@ module _ {s : State} (v : Valid s) {b : Book} (a : Agrees s b) where
   rations rs w =
       let t = run-tells start rs w in
       record {
-        pinned = t .counted;
-        whole = all-pages (t .valid);
-        places = one-place (t .valid);
-        owners = guest-owner (t .valid);
-        kept = data-kept (t .agrees);
-        guestValues = t .agrees .value;
-        hostValues = host-zero (t .valid);
+        kept =
+            record {
+              pinned = t .counted;
+              whole = all-pages (t .valid);
+              places = one-place (t .valid);
+              owners = guest-owner (t .valid);
+              found = data-found (t .agrees);
+              holds = t .agrees .value;
+              hosts = host-zero (t .valid);
+              agrees = t .agrees;
+            };
         answers = run-values start rs w;
-        agrees = t .agrees;
       }
 
   -- after any records, the next one that is accepted answers what the past before it says
@@ -71,4 +74,4 @@ fresh-rations = rations fresh-valid fresh-agrees
 -- a guest owns its first page and those that it pinned, less those that it unpinned
 pub fresh-pinned : (rs : List (List ℕ)) → Each Bytes rs → (g : ℕ) → g < guests
     → owned (run fresh rs .state .shape) g + unpinsIn freshBook (pastOf fresh rs) g ≡ 1 + pinsIn freshBook (pastOf fresh rs) g
-fresh-pinned rs w g h = fresh-rations rs w .pinned g h ∙ ap (λ (x : ℕ). x + pinsIn freshBook (pastOf fresh rs) g) (fresh-owned g h)
+fresh-pinned rs w g h = fresh-rations rs w .kept .pinned g h ∙ ap (λ (x : ℕ). x + pinsIn freshBook (pastOf fresh rs) g) (fresh-owned g h)

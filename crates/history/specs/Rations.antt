@@ -52,25 +52,27 @@ pub record OnePlace (h : Shape) (p : ℕ) : Type 0 where
   pub inIt : In h p place
   pub only : (q : Place) → In h p q → q ≡ place
 
--- ---- the theorem's statement, of a run over the records rs from the state s, which agrees with the book b
+-- ---- the theorem's statement
 
-pub record Rations (b : Book) (s : State) (rs : List (List ℕ)) : Type 0 where
-  -- Pages: what a guest owns is what it owned, and what it pinned, less what it unpinned. The guests' pages, the host's and those that the map
-  -- marks are all; each is in one of these places, and a guest's at one of its physical addresses.
-  pub pinned : (g : ℕ) → g < guests
-      → owned (run s rs .state .shape) g + unpinsIn b (pastOf s rs) g ≡ owned (s .shape) g + pinsIn b (pastOf s rs) g
-  pub whole : sumBelow guests (owned (run s rs .state .shape)) + hostPages + ones (run s rs .state .shape .pages .free) ≡ pages
-  pub places : (p : ℕ) → p < pages → OnePlace (run s rs .state .shape) p
+-- Of a state t to which a past led from the state s, which agrees with the book b.
+pub record Kept (b : Book) (s : State) (past : Past) (t : State) : Type 0 where
+  -- Pages: a guest owns what it owned and what it pinned, less what it unpinned. The guests' pages, the host's and those that the map marks are
+  -- all; each is in one of these places, and a guest's at one of its physical addresses.
+  pub pinned : (g : ℕ) → g < guests → owned (t .shape) g + unpinsIn b past g ≡ owned (s .shape) g + pinsIn b past g
+  pub whole : sumBelow guests (owned (t .shape)) + hostPages + ones (t .shape .pages .free) ≡ pages
+  pub places : (p : ℕ) → p < pages → OnePlace (t .shape) p
   pub owners : (g p : ℕ) → g < guests → p < pages
-      → (at (run s rs .state .shape .pages .owner) p ≡ ownerGuest g) ↔ ((pa : ℕ) × Has (run s rs .state .shape .pages .physical) g pa p)
-  -- Values: where its past says that a guest has a data page, it has one, which holds the value that its past says. So does every data page that
-  -- it has. A host page holds 0.
-  pub kept : (g pa : ℕ) → g < guests → pa < physicals → kindIn b (pastOf s rs) g pa ≡ kindData
-      → (p : ℕ) × Has (run s rs .state .shape .pages .physical) g pa p × (present (run s rs .state) p ≡ valueIn b (pastOf s rs) g pa)
-  pub guestValues : (g pa p : ℕ) → Has (run s rs .state .shape .pages .physical) g pa p → at (run s rs .state .shape .pages .kind) p ≡ kindData
-      → present (run s rs .state) p ≡ valueIn b (pastOf s rs) g pa
-  pub hostValues : (p : ℕ) → firstHostPage ≤ p → p < firstFreePage → present (run s rs .state) p ≡ 0
-  -- Answers: each record's value is what the past before it says.
+      → (at (t .shape .pages .owner) p ≡ ownerGuest g) ↔ ((pa : ℕ) × Has (t .shape .pages .physical) g pa p)
+  -- Values: where the past says that a guest has a data page, it has one, and that holds what the past says. So does every data page that a guest
+  -- has. A host page holds 0.
+  pub found : (g pa : ℕ) → g < guests → pa < physicals → kindIn b past g pa ≡ kindData
+      → (p : ℕ) × Has (t .shape .pages .physical) g pa p × (present t p ≡ valueIn b past g pa)
+  pub holds : (g pa p : ℕ) → Has (t .shape .pages .physical) g pa p → at (t .shape .pages .kind) p ≡ kindData → present t p ≡ valueIn b past g pa
+  pub hosts : (p : ℕ) → firstHostPage ≤ p → p < firstFreePage → present t p ≡ 0
+  -- The active guest, current tables, kinds and links are what the past says too.
+  pub agrees : Agrees t (bookAfter b past)
+
+-- Of a run over the records rs: the state after it is kept, and each record's value is what the past before it says.
+pub record Rations (b : Book) (s : State) (rs : List (List ℕ)) : Type 0 where
+  pub kept : Kept b s (pastOf s rs) (run s rs .state)
   pub answers : values s rs ≡ valuesAfter b [] rs (numbers s rs)
-  -- The active guest, current tables, kinds and links are the past's too.
-  pub agrees : Agrees (run s rs .state) (bookAfter b (pastOf s rs))
