@@ -1,7 +1,7 @@
 -- Reads and writes. The address leads, in the state and in the book, to the same page of the active guest: a read answers its value and leaves
 -- what every page holds, a write changes what this one holds.
 -- Assumes nothing.
-use mathlib.Core.Path.{_≡_, refl, sym, ap, _∙_, subst}
+use mathlib.Core.Path.{_≡_, sym, ap, _∙_, subst}
 use mathlib.Core.Bool.{true, false, _&&_}
 use mathlib.Core.Logic.{_≢_}
 use mathlib.Core.Option.{none, some}
@@ -20,9 +20,9 @@ use Rattle.model.specs.Parts.{takeOut, enter}
 use Rattle.model.specs.Read.{missLine, accessHistory, readStep}
 use Rattle.model.specs.Write.{store, writeStep}
 use Rattle.model.specs.Valid.{Valid}
-use Rattle.keeps.proofs.Core.{core-of, maps-here, mapped-page, inForce}
+use Rattle.keeps.proofs.Core.{core-of, maps-here, inForce}
 use Rattle.keeps.proofs.Stores.{size-set}
-use Rattle.keeps.proofs.Sets.{Key, Fills, line-key, looked?, filled?, unfilled}
+use Rattle.keeps.proofs.Sets.{Key, line-key, looked?, filled?, unfilled}
 use Rattle.keeps.proofs.Lines.{takeOut-core, enter-none}
 use Rattle.keeps.proofs.Read.{enters, readStep-valid}
 use Rattle.history.specs.Past.{Book, isTo}

@@ -8,7 +8,7 @@ use Prim.Native.Nat.{ℕ}
 use lib.Dec.{eqb}
 use borrow.Author.Tests.{ne-eqb}
 use Rattle.model.specs.Records.{Action, silent, read, readHyper, write, writeHyper, new, newSm, del, switch, lswitch, hcall, retCtrl, chmod, pin, unpin}
-use Rattle.history.specs.Past.{Past, Book, activeIn, currentIn, kindIn, linkIn, valueIn, pinsIn, unpinsIn, bookAfter}
+use Rattle.history.specs.Past.{Past, Book, activeIn, currentIn, kindIn, linkIn, valueIn, bookAfter}
 
 -- the latest action by itself
 pub book-latest : (b : Book) (x : Action) (past : Past) → bookAfter b (x ∷ past) ≡ bookAfter (bookAfter b past) (x ∷ [])

@@ -13,7 +13,7 @@ use borrow.Author.Tests.{eq-eqb, ne-eqb}
 use Rattle.laws.specs.Choice.{pick, at, _⇔_}
 use Rattle.laws.proofs.Cases.{split, same?, pick-yes, pick-not}
 use Rattle.laws.proofs.Tests.{eq⇔, and⇔, as⇔, fails, not-so}
-use Rattle.laws.proofs.Lists.{at-same, at-other, set-at, set-at′}
+use Rattle.laws.proofs.Lists.{at-same, at-other, set-at′}
 use Rattle.model.specs.Sizes.{guests, physicals, pages, addresses}
 use Rattle.model.specs.Names.{ownerGuest, kindNone}
 use Rattle.model.specs.State.{Shape, State, active, table}

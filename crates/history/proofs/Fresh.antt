@@ -2,13 +2,12 @@
 -- Assumes nothing.
 use mathlib.Core.Path.{_≡_, refl, sym, ap, _∙_}
 use mathlib.Core.Bool.{true}
-use mathlib.Core.Logic.{_↔_}
-use mathlib.Core.Option.{Option, none, some, Option·none-ne-some}
-use Prim.Native.Nat.{ℕ, zero, suc, _+_, _*_, _/_, _%_, _<_}
+use mathlib.Core.Option.{none, Option·none-ne-some}
+use Prim.Native.Nat.{ℕ, suc, _+_, _*_, _<_}
 use native.Mathlib.Omega.{arith}
 use lib.Dec.{eqb}
 use lib.ListN.{replicate, length-replicate, getD-replicate}
-use borrow.Author.Tests.{eqb-true, eq-eqb, ne-eqb, lt-ltb}
+use borrow.Author.Tests.{ne-eqb, lt-ltb}
 use Rattle.laws.specs.Choice.{pick, at}
 use Rattle.laws.specs.Search.{firstFrom, countBelow, listFrom, allBelow}
 use Rattle.laws.proofs.Cases.{same?, below?}
@@ -17,11 +16,10 @@ use Rattle.laws.proofs.Lists.{at-past, getD-listOf}
 use Rattle.laws.proofs.Search.{all⇔}
 use Rattle.laws.proofs.Grid.{row-of, column-of, place-below}
 use Rattle.model.specs.Sizes.{guests, physicals, pages, addresses, firstHostPage}
-use Rattle.model.specs.Names.{kindNone, kindData, kindTable}
-use Rattle.model.specs.State.{present}
-use Rattle.model.specs.Fresh.{freshKind, freshPhysical, freshPages, freshGuests, freshCache, fresh}
+use Rattle.model.specs.Names.{kindTable}
+use Rattle.model.specs.Fresh.{freshKind, freshPhysical, freshPages, freshGuests, fresh}
 use Rattle.history.specs.Past.{freshBook}
-use Rattle.history.specs.Agrees.{Has, Links, Charts, Agrees}
+use Rattle.history.specs.Agrees.{Has, Agrees}
 use Rattle.history.specs.Rations.{owned}
 
 -- ---- the lists of the fresh machine

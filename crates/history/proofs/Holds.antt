@@ -1,14 +1,14 @@
 -- What a page holds, through the parts of steps: no part but a store changes it, whatever lines come and go.
 -- Assumes nothing.
-use mathlib.Core.Path.{_≡_, refl, sym, ap, _∙_, subst}
-use mathlib.Core.Bool.{true, false}
+use mathlib.Core.Path.{_≡_, sym, ap, _∙_, subst}
+use mathlib.Core.Bool.{true}
 use mathlib.Core.Logic.{_≢_, ⊎-elim}
 use mathlib.Core.List.{List}
 use Prim.Native.Nat.{ℕ, suc, _<_}
 use native.Mathlib.Omega.{arith}
-use lib.ListN.{length, set}
+use lib.ListN.{length}
 use borrow.Author.Tests.{lt-ltb}
-use Rattle.laws.specs.Choice.{pick, at}
+use Rattle.laws.specs.Choice.{at}
 use Rattle.laws.proofs.Cases.{split, same?, below?}
 use Rattle.laws.proofs.Lists.{at-past, at-same, at-other, set-at′}
 use Rattle.model.specs.Sizes.{pages, lines}

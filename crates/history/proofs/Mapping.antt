@@ -2,13 +2,13 @@
 -- Assumes nothing.
 use mathlib.Core.Path.{_≡_, refl, sym, ap, _∙_}
 use mathlib.Core.Logic.{_≢_, _↔_}
-use mathlib.Core.Option.{Option, none, some, Option·some-injective, Option·none-ne-some}
-use Prim.Native.Nat.{ℕ, suc, _/_, _<_}
+use mathlib.Core.Option.{none, some, Option·some-injective, Option·none-ne-some}
+use Prim.Native.Nat.{ℕ, suc, _<_}
 use native.Mathlib.Omega.{arith}
 use lib.ListN.{length}
 use Rattle.laws.specs.Choice.{pick, at}
-use Rattle.model.specs.Sizes.{physicals, pages, addresses, ways, lines, stealth, stealthSet, setOf}
-use Rattle.model.specs.State.{State, active, table, here, nowhere, present}
+use Rattle.model.specs.Sizes.{physicals, pages, addresses, lines, stealth, setOf}
+use Rattle.model.specs.State.{State, active, table, here, nowhere}
 use Rattle.model.specs.Parts.{shaped, setEntry, forget, takeOut, takeOutPage, enter}
 use Rattle.model.specs.New.{oldLine, isShared, share, newStep}
 use Rattle.model.specs.NewSm.{newSmStep}

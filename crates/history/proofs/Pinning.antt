@@ -1,7 +1,7 @@
 -- pin and unpin: a page changes hands at one of the active guest's physical addresses. A page newly pinned holds 0; the others hold what they held.
 -- Assumes nothing.
-use mathlib.Core.Path.{_≡_, refl, sym, ap, _∙_, subst}
-use mathlib.Core.Bool.{Bool, true, false, _&&_}
+use mathlib.Core.Path.{_≡_, refl, sym, ap, _∙_}
+use mathlib.Core.Bool.{true, false, _&&_}
 use mathlib.Core.Logic.{_≢_, _↔_, Iff·rfl, ⊎-elim}
 use mathlib.Core.Option.{Option, none, some, Option·none-ne-some}
 use Prim.Native.Nat.{ℕ, suc, _+_, _*_, _<_}
@@ -15,12 +15,12 @@ use Rattle.laws.proofs.Tests.{not-so}
 use Rattle.laws.proofs.Lists.{at-same, at-other}
 use Rattle.model.specs.Sizes.{guests, physicals, pages, addresses, pinKinds}
 use Rattle.model.specs.Names.{ownerNone, ownerGuest, kindNone, kindData, kindTable}
-use Rattle.model.specs.State.{State, active, lineOfPage, present}
+use Rattle.model.specs.State.{State, active}
 use Rattle.model.specs.Pin.{pinStep}
 use Rattle.model.specs.Unpin.{unpinStep}
 use Rattle.model.specs.Rules.{Maps}
 use Rattle.model.specs.Valid.{Valid}
-use Rattle.keeps.proofs.Core.{Core, core-of, line-page}
+use Rattle.keeps.proofs.Core.{Core, core-of}
 use Rattle.keeps.proofs.Handover.{Idle, handed}
 use Rattle.keeps.proofs.Pin.{free-idle}
 use Rattle.keeps.proofs.Unpin.{given-idle}

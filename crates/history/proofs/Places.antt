@@ -1,21 +1,21 @@
 -- Where the pages of a valid state are: each in one place, all of them counted; and what a page of the host holds.
 -- Assumes nothing.
 use mathlib.Core.Path.{_≡_, refl, sym, ap, ap₂, _∙_}
-use mathlib.Core.Bool.{Bool, _&&_}
-use mathlib.Core.Logic.{_≢_, _↔_}
-use Prim.Native.Nat.{ℕ, suc, _+_, _*_, _-_, _≤_, _<_}
+use mathlib.Core.Bool.{_&&_}
+use mathlib.Core.Logic.{_↔_}
+use Prim.Native.Nat.{ℕ, suc, _+_, _-_, _≤_, _<_}
 use native.Mathlib.Omega.{arith}
 use lib.Dec.{ltb, leb, eqb}
 use lib.Count.{ones}
 use Rattle.laws.specs.Choice.{at, _⇔_}
-use Rattle.laws.specs.Bits.{bit, marks}
+use Rattle.laws.specs.Bits.{bit}
 use Rattle.laws.specs.Search.{countBelow, sumBelow}
 use Rattle.laws.proofs.Cases.{same?}
 use Rattle.laws.proofs.Tests.{eq⇔, lt⇔, le⇔, and⇔, same-test}
 use Rattle.laws.proofs.Search.{count-same}
 use Rattle.laws.proofs.Counts.{sum-front, sum-same, count-values}
 use Rattle.laws.proofs.Bits.{ones-count}
-use Rattle.model.specs.Sizes.{guests, physicals, pages, hostPages, firstHostPage, firstFreePage}
+use Rattle.model.specs.Sizes.{guests, pages, hostPages, firstHostPage, firstFreePage}
 use Rattle.model.specs.Names.{ownerNone, ownerHost, ownerGuest}
 use Rattle.model.specs.State.{State, present}
 use Rattle.model.specs.Valid.{Valid}
@@ -23,7 +23,7 @@ use Rattle.keeps.proofs.Core.{core-of, line-page}
 use Rattle.history.specs.Agrees.{Has}
 use Rattle.history.specs.Rations.{owned, Place, free, host, guest, In, OnePlace}
 use Rattle.history.proofs.Holds.{holds-present}
-use Rattle.history.proofs.Charts.{has-page, has-owner, has-once}
+use Rattle.history.proofs.Charts.{has-owner, has-once}
 
 -- the host's pages, counted
 between : countBelow pages (λ p. leb firstHostPage p && ltb p firstFreePage) ≡ hostPages

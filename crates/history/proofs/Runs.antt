@@ -2,15 +2,14 @@
 -- Assumes nothing.
 use mathlib.Core.Path.{_≡_, refl, sym, ap, ap₂, _∙_, subst}
 use mathlib.Core.List.{List, [], _∷_}
-use mathlib.Core.Option.{Option, none, some}
+use mathlib.Core.Option.{none, some}
 use Prim.Native.Nat.{ℕ, _+_, _<_}
 use borrow.Author.Tests.{ne-eqb}
-use Rattle.laws.specs.Choice.{pick}
 use Rattle.laws.proofs.Cases.{same?, pick-not}
 use Rattle.laws.proofs.Search.{Each}
 use Rattle.model.specs.Sizes.{guests}
 use Rattle.model.specs.State.{State}
-use Rattle.model.specs.Records.{Action, Bytes, decode}
+use Rattle.model.specs.Records.{Bytes, decode}
 use Rattle.model.specs.Valid.{Valid}
 use Rattle.model.specs.Step.{Outcome, numberOf, valueOf, step}
 use Rattle.model.specs.Run.{runBy, run}

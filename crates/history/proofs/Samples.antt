@@ -1,10 +1,10 @@
 -- Pasts by hand: what the definitions of Past.antt say of document 01's nine records, of a page pinned again, and of two guests at one address.
 -- Assumes nothing.
 use mathlib.Core.Path.{_≡_, refl}
-use mathlib.Core.List.{List, [], _∷_, _++_, map}
+use mathlib.Core.List.{List, [], _∷_, map}
 use Prim.Native.Nat.{ℕ}
 use Rattle.model.specs.Records.{Action, read, write, writeHyper, new, del, switch, hcall, retCtrl, chmod, pin, unpin, callNew, callDel, callPin, callUnpin, encode, decode}
-use Rattle.history.specs.Past.{Past, freshBook, activeIn, currentIn, kindIn, linkIn, valueIn, pinsIn, unpinsIn, pastAfter, valuesAfter}
+use Rattle.history.specs.Past.{Past, freshBook, activeIn, currentIn, linkIn, valueIn, pinsIn, unpinsIn, pastAfter, valuesAfter}
 
 -- a data page at physical 1, mapped at 0, written and read
 abbrev nine : List Action

@@ -8,7 +8,7 @@ use Rattle.laws.specs.Choice.{at}
 use Rattle.laws.proofs.Cases.{below?}
 use Rattle.model.specs.Sizes.{guests, physicals, pages, stealth}
 use Rattle.model.specs.Names.{waiting, kindTable}
-use Rattle.model.specs.State.{State, active, here, mapped, stealthLine, noLine}
+use Rattle.model.specs.State.{State, here, mapped, stealthLine}
 use Rattle.model.specs.Parts.{shaped, setActive, setCurrent, clearCall, takeOut, enter, saveStealth, loadStealth}
 use Rattle.model.specs.Switch.{switchStep}
 use Rattle.model.specs.Lswitch.{lswitchStep}
