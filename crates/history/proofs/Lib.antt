@@ -1,5 +1,6 @@
 pub mod Holds
 pub mod Charts
+pub mod Handover
 pub mod Quiet
 pub mod Access
 pub mod Turns

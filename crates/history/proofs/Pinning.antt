@@ -27,7 +27,8 @@ use Rattle.keeps.proofs.Unpin.{given-idle}
 use Rattle.history.specs.Past.{Book}
 use Rattle.history.specs.Agrees.{Has, Agrees}
 use Rattle.history.proofs.Holds.{HoldsIn, holds-present}
-use Rattle.history.proofs.Charts.{has-after, place⇔, rekinded, idle-unlinked, handed-chart, valued, valued-chart}
+use Rattle.history.proofs.Charts.{has-after, place⇔, valued, valued-chart}
+use Rattle.history.proofs.Handover.{rekinded, idle-unlinked, handed-chart}
 use Rattle.history.proofs.Access.{value-holds}
 
 -- ---- what pages hold
