@@ -7,6 +7,7 @@ pub mod Turns
 pub mod Mapping
 pub mod Pinning
 pub mod Books
+pub mod Untouched
 pub mod Step
 pub mod Places
 pub mod Counts
