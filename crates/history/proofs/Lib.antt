@@ -15,3 +15,4 @@ pub mod Runs
 pub mod Fresh
 pub mod Rations
 pub mod Samples
+pub mod Journals

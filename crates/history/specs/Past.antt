@@ -73,7 +73,7 @@ activeIn b (x ∷ past) =
     elim (deedOf x) [
       | switched g ↦ g
       | quiet ↦ before
-      | looked vb ↦ before
+      | looked va ↦ before
       | wrote va v ↦ before
       | linked va o ↦ before
       | tabled pa ↦ before
@@ -89,7 +89,7 @@ currentIn b (x ∷ past) g =
     elim (deedOf x) [
       | tabled pa ↦ pick (eqb g (activeIn b past)) pa before
       | quiet ↦ before
-      | looked vb ↦ before
+      | looked va ↦ before
       | wrote va v ↦ before
       | linked va o ↦ before
       | switched h ↦ before
@@ -110,7 +110,7 @@ kindIn b (x ∷ past) g pa =
       | pinned qa k ↦ pick (isOwn b past g pa qa) k before
       | unpinned qa ↦ pick (isOwn b past g pa qa) kindNone before
       | quiet ↦ before
-      | looked vb ↦ before
+      | looked va ↦ before
       | wrote va v ↦ before
       | linked va o ↦ before
       | switched h ↦ before
@@ -154,7 +154,7 @@ valueIn b (x ∷ past) g pa =
       | wrote va v ↦ pick (eqb g (activeIn b past) && isTo (targetIn b past va) pa) v before
       | pinned qa k ↦ pick (isOwn b past g pa qa) 0 before
       | quiet ↦ before
-      | looked vb ↦ before
+      | looked va ↦ before
       | linked va o ↦ before
       | switched h ↦ before
       | tabled qa ↦ before
@@ -169,7 +169,7 @@ pinsIn b (x ∷ past) g =
     elim (deedOf x) [
       | pinned pa k ↦ before + pick (eqb g (activeIn b past)) 1 0
       | quiet ↦ before
-      | looked vb ↦ before
+      | looked va ↦ before
       | wrote va v ↦ before
       | linked va o ↦ before
       | switched h ↦ before
@@ -184,7 +184,7 @@ unpinsIn b (x ∷ past) g =
     elim (deedOf x) [
       | unpinned pa ↦ before + pick (eqb g (activeIn b past)) 1 0
       | quiet ↦ before
-      | looked vb ↦ before
+      | looked va ↦ before
       | wrote va v ↦ before
       | linked va o ↦ before
       | switched h ↦ before
