@@ -1,0 +1,4 @@
+pub mod Pages
+pub mod Judging
+pub mod Storing
+pub mod Running

@@ -1,0 +1,4 @@
+pub mod Acting
+pub mod Promises
+pub mod Parts
+pub mod Turns
