@@ -10,7 +10,8 @@ use Rattle.laws.specs.Bits.{marked, unmarked}
 use Rattle.laws.proofs.Cases.{pick-yes, pick-not}
 use Rattle.laws.proofs.Tests.{lt⇔, and⇔, not-so}
 use Rattle.model.specs.Sizes.{guests, physicals, pages, pinKinds}
-use Rattle.model.specs.State.{State, active, isPage, ownerNone, kindNone}
+use Rattle.model.specs.Names.{ownerNone, kindNone}
+use Rattle.model.specs.State.{State, active, isPage}
 use Rattle.model.specs.Checks.{lowestFree}
 use Rattle.model.specs.Pin.{pinStep}
 use Rattle.model.specs.Unpin.{unpinStep}

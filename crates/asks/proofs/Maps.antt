@@ -15,7 +15,8 @@ use Rattle.laws.proofs.Tests.{eq⇔, true⇔, and⇔, not⇔, as⇔, not-so}
 use Rattle.laws.proofs.Search.{some⇔}
 use Rattle.laws.proofs.Grid.{someGrid⇔}
 use Rattle.model.specs.Sizes.{pages, addresses}
-use Rattle.model.specs.State.{Shape, isPage, kindTable, isMapped, mapsPage}
+use Rattle.model.specs.Names.{kindTable}
+use Rattle.model.specs.State.{Shape, isPage, isMapped, mapsPage}
 use Rattle.model.specs.Checks.{hasEntries}
 use Rattle.host.specs.Lead.{leadOf}
 use Rattle.asks.specs.Maps.{leadsTo, mapsPageOf, entryIs, entryMaps, rowMaps, tableMaps, entryThere, onlyAt, butAt}

@@ -9,7 +9,8 @@ use borrow.Author.Tests.{lt-ltb, le-ltb, ne-eqb}
 use Rattle.laws.specs.Choice.{at}
 use Rattle.laws.proofs.Cases.{below?}
 use Rattle.model.specs.Sizes.{pages, stealth, reserved}
-use Rattle.model.specs.State.{Shape, active, isPage, kindData, kindTable, kindOf, isCacheable, mapped, isMapped}
+use Rattle.model.specs.Names.{kindData, kindTable}
+use Rattle.model.specs.State.{Shape, active, isPage, kindOf, isCacheable, mapped, isMapped}
 use Rattle.model.specs.Checks.{Check, first, hasEntries}
 use Rattle.host.specs.declared.Ma.{Ma}
 use Rattle.host.specs.declared.Lead.{Lead}

@@ -10,7 +10,8 @@ use borrow.Author.Tests.{lt-ltb, le-ltb, eq-eqb, ne-eqb}
 use Rattle.laws.specs.Choice.{pick, at}
 use Rattle.laws.proofs.Cases.{split, below?, pick-both}
 use Rattle.model.specs.Sizes.{physicals, pages}
-use Rattle.model.specs.State.{Shape, lead, nowhere, kindTable, active, tableAt, table}
+use Rattle.model.specs.Names.{kindTable}
+use Rattle.model.specs.State.{Shape, lead, nowhere, active, tableAt, table}
 use Rattle.host.specs.declared.Ma.{Ma}
 use Rattle.host.specs.declared.Lead.{Lead}
 use Rattle.host.specs.declared.Lead.the-variants.{To, Nowhere}

@@ -5,7 +5,8 @@ use mathlib.Core.List.{List}
 use Prim.Native.Nat.{ℕ}
 use lib.Dec.{eqb}
 use Rattle.laws.specs.Choice.{pick, at}
-use Rattle.model.specs.State.{kindTable, nowhere}
+use Rattle.model.specs.Names.{kindTable}
+use Rattle.model.specs.State.{nowhere}
 use Rattle.host.specs.declared.Lead.{Lead}
 use Rattle.host.specs.declared.Lead.the-variants.{To, Nowhere}
 

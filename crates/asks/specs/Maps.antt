@@ -6,7 +6,8 @@ use lib.Dec.{eqb}
 use Rattle.laws.specs.Choice.{at}
 use Rattle.laws.specs.Search.{someBelow}
 use Rattle.model.specs.Sizes.{pages, addresses}
-use Rattle.model.specs.State.{Shape, isPage, kindTable, isMapped}
+use Rattle.model.specs.Names.{kindTable}
+use Rattle.model.specs.State.{Shape, isPage, isMapped}
 use Rattle.host.specs.declared.Lead.{Lead}
 use Rattle.host.specs.declared.Lead.the-variants.{To, Nowhere}
 

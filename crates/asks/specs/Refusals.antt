@@ -6,7 +6,8 @@ use Prim.Native.Nat.{ℕ}
 use lib.Dec.{eqb}
 use Rattle.laws.specs.Choice.{pick, at}
 use Rattle.model.specs.Sizes.{stealth}
-use Rattle.model.specs.State.{Shape, active, isPage, kindData, kindTable, kindOf, isCacheable, mapped}
+use Rattle.model.specs.Names.{kindData, kindTable}
+use Rattle.model.specs.State.{Shape, active, isPage, kindOf, isCacheable, mapped}
 use Rattle.model.specs.Records.{nothing, activeIdle, namedIdle, rowOf}
 use Rattle.model.specs.Checks.{Asked, Check, first, hasCall, wrongMode, wrongCall, hasEntries}
 use Rattle.records.specs.Table.{needOf}

@@ -18,7 +18,8 @@ use Rattle.laws.proofs.Search.{all⇔}
 use Rattle.laws.proofs.Lists.{at-past, at-same, at-other}
 use Rattle.laws.proofs.Grid.{place-of, place-below, row-of, column-of, row-below, column-below}
 use Rattle.model.specs.Sizes.{pages, addresses, stealth}
-use Rattle.model.specs.State.{State, kindData, kindTable, lead, isPage, nowhere}
+use Rattle.model.specs.Names.{kindData, kindTable}
+use Rattle.model.specs.State.{State, lead, isPage, nowhere}
 use Rattle.model.specs.Rules.{Maps, Rule6}
 use Rattle.model.specs.RuleTests.{rule6?}
 use Rattle.model.specs.Valid.{Sized}

@@ -6,7 +6,8 @@ use lib.Dec.{ltb, eqb}
 use Rattle.laws.specs.Choice.{pick, at, _⇒_}
 use Rattle.laws.specs.Search.{allBelow}
 use Rattle.model.specs.Sizes.{guests, pages, addresses, reserved}
-use Rattle.model.specs.State.{State, ownerGuest, kindData, kindTable, lead, isPage, nowhere}
+use Rattle.model.specs.Names.{ownerGuest, kindData, kindTable}
+use Rattle.model.specs.State.{State, lead, isPage, nowhere}
 use Rattle.model.specs.RuleTests.{leadsTo}
 
 -- 4, at an entry

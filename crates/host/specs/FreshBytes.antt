@@ -4,7 +4,7 @@ use Prim.Native.Nat.{ℕ, _-_, _/_}
 use lib.Dec.{ltb, eqb}
 use Rattle.laws.specs.Choice.{pick}
 use Rattle.model.specs.Sizes.{firstFreePage, byteBound}
-use Rattle.model.specs.State.{running}
+use Rattle.model.specs.Names.{running}
 use Rattle.model.specs.Fresh.{freshOwner, freshKind, freshPhysical}
 use Rattle.host.specs.Cut.{begin}
 use Rattle.host.specs.View.{sizes, kindField, cacheableField, entryField, physicalField, currentField}

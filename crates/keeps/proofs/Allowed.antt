@@ -15,7 +15,8 @@ use Rattle.laws.proofs.Cases.{same?, below?}
 use Rattle.laws.proofs.Search.{some⇔}
 use Rattle.laws.proofs.Grid.{someGrid⇔}
 use Rattle.model.specs.Sizes.{physicals, pages, addresses, firstReserved, stealth, reserved}
-use Rattle.model.specs.State.{Shape, State, running, waiting, kindData, kindTable, active, isPage, mapped, here, isMapped}
+use Rattle.model.specs.Names.{running, waiting, kindData, kindTable}
+use Rattle.model.specs.State.{Shape, State, active, isPage, mapped, here, isMapped}
 use Rattle.model.specs.Records.{Action, silent, read, readHyper, write, writeHyper, new, newSm, del, switch, lswitch, hcall, retCtrl, chmod, pin, unpin, InRange, anyMode, callNew, callDel, callLswitch, callPin, callUnpin}
 use Rattle.model.specs.Valid.{Valid}
 use Rattle.model.specs.Checks.{Check, asked, hasEntries, lowestFree}

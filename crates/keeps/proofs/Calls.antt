@@ -8,7 +8,8 @@ use Rattle.laws.specs.Choice.{at}
 use Rattle.laws.proofs.Cases.{same?}
 use Rattle.laws.proofs.Lists.{at-same, at-other}
 use Rattle.model.specs.Sizes.{guests, physicals, addresses, calls}
-use Rattle.model.specs.State.{State, running, active, table}
+use Rattle.model.specs.Names.{running}
+use Rattle.model.specs.State.{State, active, table}
 use Rattle.model.specs.Records.{CallInRange}
 use Rattle.model.specs.Rules.{Stored, Fits, Rule1}
 use Rattle.model.specs.Parts.{shaped, setCall, clearCall}

@@ -7,7 +7,8 @@ use borrow.Author.Tests.{lt-ltb, eq-eqb}
 use Rattle.laws.specs.Choice.{at}
 use Rattle.laws.proofs.Cases.{same?}
 use Rattle.model.specs.Sizes.{guests, physicals, pages, addresses, lines}
-use Rattle.model.specs.State.{Shape, State, ownerNone, ownerHost, ownerGuest, kindData, kindTable, lead, active, table, tableAt, mapped, here}
+use Rattle.model.specs.Names.{ownerNone, ownerHost, ownerGuest, kindData, kindTable}
+use Rattle.model.specs.State.{Shape, State, lead, active, table, tableAt, mapped, here}
 use Rattle.model.specs.Rules.{Maps, Rule1, Rule2, Rule3, Rule4, Rule5, Registered, Rule6, Rule7, Rule8, Rule9, Leads, Rule10}
 use Rattle.model.specs.Valid.{Sized, Valid}
 use Rattle.model.proofs.RuleTests.{lead-page, lead-holds}

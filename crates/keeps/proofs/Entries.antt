@@ -11,7 +11,8 @@ use lib.ListN.{set}
 use Rattle.laws.specs.Choice.{at}
 use Rattle.laws.proofs.Lists.{at-other, set-at′}
 use Rattle.model.specs.Sizes.{pages, addresses, lines, slots, stealth, reserved}
-use Rattle.model.specs.State.{Pages, Shape, State, ownerGuest, kindData, active, table}
+use Rattle.model.specs.Names.{ownerGuest, kindData}
+use Rattle.model.specs.State.{Pages, Shape, State, active, table}
 use Rattle.model.specs.Rules.{Maps, Entry, Rule4, Rule6, Rule7, Rule8, Rule9}
 use Rattle.model.specs.Parts.{shaped, setEntry}
 use Rattle.model.specs.Valid.{Valid}

@@ -11,7 +11,8 @@ use Rattle.laws.specs.Bits.{bit}
 use Rattle.laws.proofs.Cases.{same?}
 use Rattle.laws.proofs.Lists.{at-same, at-other, set-at′}
 use Rattle.model.specs.Sizes.{guests, physicals, pages, addresses}
-use Rattle.model.specs.State.{State, ownerNone, ownerHost, ownerGuest, kindNone, kindData, kindTable, active, table}
+use Rattle.model.specs.Names.{ownerNone, ownerHost, ownerGuest, kindNone, kindData, kindTable}
+use Rattle.model.specs.State.{State, active, table}
 use Rattle.model.specs.Parts.{withPages}
 use Rattle.model.specs.Rules.{Maps, Rule2, Rule3, Rule4, Rule5, Rule6, Rule7}
 use Rattle.model.specs.Valid.{Valid}

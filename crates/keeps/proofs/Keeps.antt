@@ -10,7 +10,8 @@ use Rattle.laws.specs.Bits.{bit, marks}
 use Rattle.laws.proofs.Cases.{below?}
 use Rattle.laws.proofs.Search.{Each, firstBelow-found, firstBelow-least}
 use Rattle.model.specs.Sizes.{guests, physicals, pages, addresses, stealth}
-use Rattle.model.specs.State.{State, active, mapped, here, kindData, kindTable}
+use Rattle.model.specs.Names.{kindData, kindTable}
+use Rattle.model.specs.State.{State, active, mapped, here}
 use Rattle.model.specs.Fresh.{fresh}
 use Rattle.model.specs.Records.{Action, silent, read, readHyper, write, writeHyper, new, newSm, del, switch, lswitch, hcall, retCtrl, chmod, pin, unpin, InRange, Bytes}
 use Rattle.model.specs.Rules.{Maps}
@@ -51,7 +52,7 @@ module _ {s : State} (v : Valid s) where
       (b, eqb-true (bit f (lowestFree f)) 1 (firstBelow-found (marks f) pages b))
 
   -- a physical address that leads to no page is empty
-  unused : {pa : ℕ} → pa < physicals → ((p : ℕ) → At (s .shape) pa p → ⊥) → at (s .shape .pages .physical) (physicals * active (s .shape) + pa) ≡ 0
+  pub unused : {pa : ℕ} → pa < physicals → ((p : ℕ) → At (s .shape) pa p → ⊥) → at (s .shape .pages .physical) (physicals * active (s .shape) + pa) ≡ 0
   unused {pa} h n =
       let i = physicals * active (s .shape) + pa in
       below? (here (s .shape) pa) pages (λ b. absurd (n (here (s .shape) pa) (at-here (s .shape) pa b)))

@@ -7,7 +7,8 @@ use lib.ListN.{set}
 use Rattle.laws.specs.Choice.{at}
 use Rattle.laws.proofs.Lists.{at-set}
 use Rattle.model.specs.Sizes.{physicals, pages}
-use Rattle.model.specs.State.{State, kindTable, active, here}
+use Rattle.model.specs.Names.{kindTable}
+use Rattle.model.specs.State.{State, active, here}
 use Rattle.model.specs.Parts.{setCurrent, takeOut}
 use Rattle.model.specs.Lswitch.{lswitchStep}
 use Rattle.model.specs.Rules.{Registered, Rule5}
@@ -37,7 +38,7 @@ module _ {s : State} (v : Valid s) (pa : ℕ) (h : pa < physicals) (page : here 
             (λ n. v .rule5 .currents g hg);
       }
 
-  current-part : GuestsOf (s .shape) (setCurrent (s .shape) pa .guests)
+  pub current-part : GuestsOf (s .shape) (setCurrent (s .shape) pa .guests)
   current-part =
       record {
         current = size-set (s .shape .guests .current) (active (s .shape)) pa (v .sized .current);

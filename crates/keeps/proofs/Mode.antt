@@ -5,7 +5,8 @@ use Prim.Native.Nat.{ℕ, suc, _<_}
 use native.Mathlib.Omega.{arith}
 use Rattle.laws.specs.Choice.{at}
 use Rattle.model.specs.Sizes.{guests}
-use Rattle.model.specs.State.{Guests, State, waiting, running, active, table}
+use Rattle.model.specs.Names.{waiting, running}
+use Rattle.model.specs.State.{Guests, State, active, table}
 use Rattle.model.specs.Parts.{shaped, setMode}
 use Rattle.model.specs.Rules.{Stored}
 use Rattle.model.specs.Valid.{Valid}

@@ -12,7 +12,8 @@ use Rattle.laws.proofs.Cases.{split, same?}
 use Rattle.laws.proofs.Tests.{eq⇔, not⇔, fails}
 use Rattle.laws.proofs.Lists.{at-same}
 use Rattle.model.specs.Sizes.{guests, physicals, pages, addresses, stealth, reserved}
-use Rattle.model.specs.State.{Shape, State, ownerGuest, kindData, nowhere, active, table, here, present, lineOfPage}
+use Rattle.model.specs.Names.{ownerGuest, kindData}
+use Rattle.model.specs.State.{Shape, State, nowhere, active, table, here, present, lineOfPage}
 use Rattle.model.specs.Rules.{Maps}
 use Rattle.model.specs.Parts.{shaped, setEntry, takeOut, takeOutPage}
 use Rattle.model.specs.New.{isShared, share, newStep}

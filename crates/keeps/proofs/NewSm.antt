@@ -6,7 +6,8 @@ use native.Mathlib.Omega.{arith}
 use Rattle.laws.specs.Choice.{at}
 use Rattle.laws.proofs.Lists.{at-same}
 use Rattle.model.specs.Sizes.{physicals, pages, addresses, stealth}
-use Rattle.model.specs.State.{State, kindData, table, mapped, here, stealthLine}
+use Rattle.model.specs.Names.{kindData}
+use Rattle.model.specs.State.{State, table, mapped, here, stealthLine}
 use Rattle.model.specs.Parts.{shaped, setEntry, enter}
 use Rattle.model.specs.NewSm.{newSmStep}
 use Rattle.model.specs.Rules.{Maps, Leads}

@@ -9,7 +9,8 @@ use Rattle.laws.specs.Bits.{bit, unmarked}
 use Rattle.laws.proofs.Cases.{same?}
 use Rattle.laws.proofs.Bits.{unmarked-same, unmarked-other, unmarked-below}
 use Rattle.model.specs.Sizes.{physicals, pages, pinKinds}
-use Rattle.model.specs.State.{State, ownerNone, ownerGuest, kindNone, active}
+use Rattle.model.specs.Names.{ownerNone, ownerGuest, kindNone}
+use Rattle.model.specs.State.{State, active}
 use Rattle.model.specs.Pin.{pinStep}
 use Rattle.model.specs.Valid.{Valid}
 use Rattle.keeps.proofs.Core.{Core, core-of, mapped-page}
@@ -18,7 +19,7 @@ use Rattle.keeps.proofs.Handover.{Idle, Becomes, handed-valid}
 
 module _ {s : State} (c : Core s) {pa p : ℕ} (ha : pa < physicals) (hp : p < pages) where
   -- a free page has neither owner nor kind, so that no rule leads to it
-  free-idle : bit (s .shape .pages .free) p ≡ 1 → at (s .shape .pages .physical) (physicals * active (s .shape) + pa) ≡ 0
+  pub free-idle : bit (s .shape .pages .free) p ≡ 1 → at (s .shape .pages .physical) (physicals * active (s .shape) + pa) ≡ 0
       → Idle s p (physicals * active (s .shape) + pa)
   free-idle isFree empty =
       record {

@@ -65,7 +65,7 @@ module _ {s : State} (v : Valid s) (va : ℕ) (hv : va < addresses) (free : rese
     outside : i / ways ≢ stealthSet
     outside e = f .missed stealthLine (stealth-hits (f .inSet ∙ e))
 
-    enters : Enters (takeOut s i .shape) i va (mapped (s .shape) va)
+    pub enters : Enters (takeOut s i .shape) i va (mapped (s .shape) va)
     unfolding takeOut
     enters =
         record {

@@ -171,6 +171,16 @@ module _ (h : Shape) (va p : ℕ) where
         missed = λ j k. n (inl (key-hits j k));
       })))
 
+  -- where an access fills none, a cacheable page has its line already
+  pub unfilled : Below (h .cache .history) sets histories → missLine h va p ≡ noLine → isCacheable h p ≡ true → Key h va p (lineOf h va p)
+  unfolding missLine
+  unfilled b e c =
+      below? (hitWay h va p) ways (λ l. rw (lt-ltb (hitWay h va p) ways l) (hit-key l))
+      (λ l.
+      let w = wayFor-below b (setOf va) (set-below va) in
+      let z : lineAt (setOf va) (wayFor h (setOf va)) ≡ noLine = rw (le-ltb (hitWay h va p) ways l, c) at e in
+      absurd (omega (arith, lineAt-below (setOf va) (wayFor h (setOf va)) (set-below va) w)))
+
   -- ---- the history after an access
 
   accessWay-below : Below (h .cache .history) sets histories → accessWay h va p < ways

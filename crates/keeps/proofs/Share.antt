@@ -31,11 +31,11 @@ uncached s q =
 -- ---- the lines of a page taken out
 
 module _ (linePage : List ℕ) (q : ℕ) where
-  gone : (l : List ℕ) (j : ℕ) → j < lines → at linePage j ≡ suc q → at (cleared linePage q l) j ≡ 0
+  pub gone : (l : List ℕ) (j : ℕ) → j < lines → at linePage j ≡ suc q → at (cleared linePage q l) j ≡ 0
   gone l j hj e =
       getD-listOf lines (λ i. pick (eqb (at linePage i) (suc q)) 0 (at l i)) 0 j hj ∙ rw (eq-eqb (at linePage j) (suc q) e)
 
-  kept : (l : List ℕ) (j : ℕ) → j < lines → at linePage j ≢ suc q → at (cleared linePage q l) j ≡ at l j
+  pub kept : (l : List ℕ) (j : ℕ) → j < lines → at linePage j ≢ suc q → at (cleared linePage q l) j ≡ at l j
   kept l j hj n =
       getD-listOf lines (λ i. pick (eqb (at linePage i) (suc q)) 0 (at l i)) 0 j hj ∙ rw (ne-eqb (at linePage j) (suc q) n)
 
@@ -51,7 +51,7 @@ module _ (linePage : List ℕ) (q : ℕ) where
   below-cleared l {b} z h j hj = either (λ (x : ℕ). x < b) l j hj z (h j hj)
 
   -- a line that is left is of another page, and has its address
-  left : (lineAddress : List ℕ) (j p : ℕ) → j < lines → at (cleared linePage q linePage) j ≡ suc p
+  pub left : (lineAddress : List ℕ) (j p : ℕ) → j < lines → at (cleared linePage q linePage) j ≡ suc p
       → (at linePage j ≡ suc p) × (p ≢ q) × (at (cleared linePage q lineAddress) j ≡ at lineAddress j)
   left lineAddress j p hj e =
       same? (at linePage j) (suc q) (λ w. absurd (omega (arith, gone linePage j hj w)))

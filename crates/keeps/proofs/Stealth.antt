@@ -47,14 +47,14 @@ saved-core v = takeOut-core (core-of v) stealthLine
 
 module _ {s : State} (c : Core s) (u : Unloaded (s .shape .cache)) where
   -- a line of the stealth set is empty, however its place is given
-  line-empty : (i : ℕ) → i / ways ≡ stealthSet → at (s .shape .cache .linePage) i ≡ 0
+  pub line-empty : (i : ℕ) → i / ways ≡ stealthSet → at (s .shape .cache .linePage) i ≡ 0
   line-empty =
       each-way (λ (i : ℕ). at (s .shape .cache .linePage) i ≡ 0) stealthSet
       (λ w h. same? w 0 (λ z. ap (λ (x : ℕ). at (s .shape .cache .linePage) (lineAt stealthSet x)) z ∙ u .empty) (λ n. u .alone w (omega arith) h))
 
   module _ {p : ℕ} (l : Leads (s .shape .pages .entry) (table (s .shape)) stealth p) where
     -- a line with the key would lie in the stealth set
-    enters : Enters (s .shape) stealthLine stealth p
+    pub enters : Enters (s .shape) stealthLine stealth p
     enters =
         let m = leads-maps c (omega arith) l in
         record {

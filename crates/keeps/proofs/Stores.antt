@@ -10,7 +10,8 @@ use Rattle.laws.specs.Choice.{at}
 use Rattle.laws.proofs.Cases.{same?, below?}
 use Rattle.laws.proofs.Lists.{at-past, at-same, at-other, at-any, set-at′}
 use Rattle.model.specs.Sizes.{pages, valueBound}
-use Rattle.model.specs.State.{Shape, State, ownerGuest}
+use Rattle.model.specs.Names.{ownerGuest}
+use Rattle.model.specs.State.{Shape, State}
 use Rattle.model.specs.Rules.{Below, Rule2}
 use Rattle.keeps.proofs.Core.{Core, GuestData}
 use Rattle.keeps.proofs.Parts.{PagesPart}

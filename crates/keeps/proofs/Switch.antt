@@ -4,7 +4,8 @@ use mathlib.Core.Path.{_≡_}
 use Prim.Native.Nat.{ℕ, _<_}
 use native.Mathlib.Omega.{arith}
 use Rattle.model.specs.Sizes.{guests}
-use Rattle.model.specs.State.{State, waiting}
+use Rattle.model.specs.Names.{waiting}
+use Rattle.model.specs.State.{State}
 use Rattle.model.specs.Parts.{takeOut}
 use Rattle.model.specs.Switch.{switchStep}
 use Rattle.model.specs.Valid.{Valid}

@@ -8,7 +8,8 @@ use Rattle.laws.specs.Choice.{at}
 use Rattle.laws.specs.Bits.{marked}
 use Rattle.laws.proofs.Bits.{marked-same, marked-other, marked-below}
 use Rattle.model.specs.Sizes.{physicals, pages, addresses}
-use Rattle.model.specs.State.{State, ownerNone, ownerGuest, kindNone, active}
+use Rattle.model.specs.Names.{ownerNone, ownerGuest, kindNone}
+use Rattle.model.specs.State.{State, active}
 use Rattle.model.specs.Rules.{Maps}
 use Rattle.model.specs.Unpin.{unpinStep}
 use Rattle.model.specs.Valid.{Valid}
@@ -18,7 +19,7 @@ use Rattle.keeps.proofs.Handover.{Idle, Becomes, handed-valid}
 
 module _ {s : State} (c : Core s) {pa p : ℕ} (ha : pa < physicals) (hp : p < pages) where
   -- the page is the active guest's, so that no other place leads to it
-  given-idle : at (s .shape .pages .physical) (physicals * active (s .shape) + pa) ≡ suc p → pa ≢ at (s .shape .guests .current) (active (s .shape))
+  pub given-idle : at (s .shape .pages .physical) (physicals * active (s .shape) + pa) ≡ suc p → pa ≢ at (s .shape .guests .current) (active (s .shape))
       → ((va : ℕ) → va < addresses → at (s .shape .pages .entry) (addresses * p + va) ≡ 0)
       → ((m va : ℕ) → Maps (s .shape .pages .kind) (s .shape .pages .entry) m va p → ⊥) → Idle s p (physicals * active (s .shape) + pa)
   given-idle registered other bare unmapped =

@@ -7,7 +7,8 @@ use Prim.Native.Nat.{ℕ, suc, _+_, _*_, _<_}
 use Rattle.laws.specs.Choice.{at}
 use Rattle.laws.specs.Bits.{bit}
 use Rattle.model.specs.Sizes.{physicals, pages, addresses, firstReserved, stealth, stealthSet, setOf}
-use Rattle.model.specs.State.{Shape, State, running, waiting, kindData, kindTable, active, table}
+use Rattle.model.specs.Names.{running, waiting, kindData, kindTable}
+use Rattle.model.specs.State.{Shape, State, active, table}
 use Rattle.model.specs.Records.{Action, silent, read, readHyper, write, writeHyper, new, newSm, del, switch, lswitch, hcall, retCtrl, chmod, pin, unpin, InRange, encode, callNew, callDel, callLswitch, callPin, callUnpin}
 use Rattle.model.specs.Rules.{Maps}
 use Rattle.model.specs.Valid.{Valid}

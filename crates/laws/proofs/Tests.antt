@@ -66,3 +66,8 @@ fails h e p = true≢false (sym (h .1 p) ∙ e)
 pub not-so {ℓ} : {b : Bool} {P : Type ℓ} → b ⇔ P → (P → ⊥) → b ≡ false
 not-so {b = true} h n = absurd (n (h .0 refl))
 not-so {b = false} h n = refl
+
+-- two tests of equivalent statements
+pub same-test {ℓ κ} : {b c : Bool} {P : Type ℓ} {Q : Type κ} → b ⇔ P → c ⇔ Q → (P → Q) → (Q → P) → b ≡ c
+same-test {b = true} h k f g = sym (k .1 (f (h .0 refl)))
+same-test {b = false} h k f g = sym (not-so k (λ q. false≢true (h .1 (g q))))

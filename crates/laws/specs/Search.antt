@@ -41,6 +41,11 @@ unfoldable pub countBelow : ℕ → (ℕ → Bool) → ℕ
 countBelow zero f = 0
 countBelow (suc n) f = countBelow n f + pick (f n) 1 0
 
+-- f 0 + .. + f (n - 1)
+unfoldable pub sumBelow : ℕ → (ℕ → ℕ) → ℕ
+sumBelow zero f = 0
+sumBelow (suc n) f = sumBelow n f + f n
+
 -- f i, f (i + 1), .., n of them
 unfoldable pub listFrom {ℓ} : {A : Type ℓ} → ℕ → ℕ → (ℕ → A) → List A
 listFrom zero i f = []

@@ -10,7 +10,8 @@ use Rattle.laws.specs.Choice.{pick, at}
 use Rattle.laws.specs.Search.{allBelow}
 use Rattle.laws.proofs.Cases.{split, same?}
 use Rattle.model.specs.Sizes.{guests, physicals, pages, ways, stealth, stealthSet}
-use Rattle.model.specs.State.{State, kindTable, lead, isPage, nowhere, table, lineAt, stealthLine}
+use Rattle.model.specs.Names.{kindTable}
+use Rattle.model.specs.State.{State, lead, isPage, nowhere, table, lineAt, stealthLine}
 use Rattle.model.specs.History.{start}
 use Rattle.model.specs.RuleTests.{stealthPage, rule9?}
 use Rattle.lines.specs.Lines.{firstWay}

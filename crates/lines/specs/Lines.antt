@@ -6,7 +6,8 @@ use lib.Dec.{ltb, eqb}
 use Rattle.laws.specs.Choice.{pick, at, _⇒_}
 use Rattle.laws.specs.Search.{someBelow}
 use Rattle.model.specs.Sizes.{pages, addresses, ways, lines, stealth, setOf, slotOf}
-use Rattle.model.specs.State.{State, kindData, isPage, table, stealthLine}
+use Rattle.model.specs.Names.{kindData}
+use Rattle.model.specs.State.{State, isPage, table, stealthLine}
 use Rattle.model.specs.RuleTests.{leadsTo}
 use Rattle.host.specs.Lead.{leadOf}
 use Rattle.seek.specs.Leads.{leadsAt}

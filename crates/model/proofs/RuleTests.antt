@@ -17,7 +17,8 @@ use Rattle.laws.proofs.Tests.{eq⇔, lt⇔, le⇔, and⇔, or⇔, imp⇔, not�
 use Rattle.laws.proofs.Search.{some⇔, all⇔, allIn⇔, Each, each⇔}
 use Rattle.laws.proofs.Grid.{allGrid⇔, someGrid⇔}
 use Rattle.model.specs.Sizes.{guests, physicals, pages, addresses, firstHostPage, firstFreePage, ways, lines, slots, stealth, stealthSet, reserved, setOf, slotOf, calls}
-use Rattle.model.specs.State.{State, ownerNone, ownerHost, ownerGuest, kindNone, kindData, kindTable, running, lead, isPage, nowhere, stealthLine, lineAt, mapsPage}
+use Rattle.model.specs.Names.{ownerNone, ownerHost, ownerGuest, kindNone, kindData, kindTable, running}
+use Rattle.model.specs.State.{State, lead, isPage, nowhere, stealthLine, lineAt, mapsPage}
 use Rattle.model.specs.History.{start}
 use Rattle.model.specs.Records.{Row, within, rowOf, kindOfCall}
 use Rattle.model.specs.Rules.{Stored, Within, Maps, Rule1, Rule2, Rule3, Rule4, Rule5, Rule6, Rule7, Rule8, Leads, Rule9, Below, Rule10}

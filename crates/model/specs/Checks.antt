@@ -8,7 +8,8 @@ use Rattle.laws.specs.Choice.{pick, at}
 use Rattle.laws.specs.Search.{firstBelow, someIn}
 use Rattle.laws.specs.Bits.{marks}
 use Rattle.model.specs.Sizes.{pages, addresses, stealth}
-use Rattle.model.specs.State.{Shape, active, isPage, kindData, kindTable, kindOf, isCacheable, mapped, here, isMapped}
+use Rattle.model.specs.Names.{kindData, kindTable}
+use Rattle.model.specs.State.{Shape, active, isPage, kindOf, isCacheable, mapped, here, isMapped}
 use Rattle.model.specs.Records.{Action, Need, nothing, exactly, activeIdle, namedIdle, Row, rowOf, fieldsOf, anyMode, callNone}
 
 -- ---- questions

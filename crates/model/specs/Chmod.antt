@@ -1,6 +1,7 @@
 -- chmod.
 -- Assumes nothing.
-use Rattle.model.specs.State.{State, running}
+use Rattle.model.specs.Names.{running}
+use Rattle.model.specs.State.{State}
 use Rattle.model.specs.Parts.{shaped, setMode}
 
 -- The guest runs.

@@ -6,7 +6,8 @@ use lib.ListN.{replicate}
 use Rattle.laws.specs.Choice.{pick}
 use Rattle.laws.specs.Search.{listOf}
 use Rattle.model.specs.Sizes.{guests, physicals, pages, addresses, firstHostPage, firstFreePage, lines, sets, slots}
-use Rattle.model.specs.State.{Pages, Guests, Cache, Tlb, State, ownerNone, ownerHost, ownerGuest, kindNone, kindData, kindTable, running}
+use Rattle.model.specs.Names.{ownerNone, ownerHost, ownerGuest, kindNone, kindData, kindTable, running}
+use Rattle.model.specs.State.{Pages, Guests, Cache, Tlb, State}
 use Rattle.model.specs.History.{start}
 
 -- Guest g owns page g; the host's pages follow; the rest are free.

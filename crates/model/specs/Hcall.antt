@@ -1,7 +1,8 @@
 -- hcall.
 -- Assumes nothing.
 use Prim.Native.Nat.{ℕ}
-use Rattle.model.specs.State.{State, active, waiting}
+use Rattle.model.specs.Names.{waiting}
+use Rattle.model.specs.State.{State, active}
 use Rattle.model.specs.Parts.{shaped, setCall, setMode}
 
 -- The call is stored, and the host has control.

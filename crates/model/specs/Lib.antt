@@ -1,4 +1,5 @@
 pub mod Sizes
+pub mod Names
 pub mod State
 pub mod History
 pub mod Fresh

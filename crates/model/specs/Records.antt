@@ -9,7 +9,7 @@ use lib.Dec.{ltb, leb, eqb}
 use lib.ListN.{length, getD}
 use Rattle.laws.specs.Choice.{pick, at}
 use Rattle.model.specs.Sizes.{guests, physicals, addresses, stealth, calls, kinds, recordBytes, byteBound, valueBound, pinKinds}
-use Rattle.model.specs.State.{waiting, running}
+use Rattle.model.specs.Names.{waiting, running}
 
 -- ---- calls
 

@@ -1,6 +1,7 @@
 -- ret_ctrl.
 -- Assumes nothing.
-use Rattle.model.specs.State.{State, waiting}
+use Rattle.model.specs.Names.{waiting}
+use Rattle.model.specs.State.{State}
 use Rattle.model.specs.Parts.{shaped, setMode}
 
 -- The host has control.

@@ -8,7 +8,8 @@ use Rattle.laws.specs.Choice.{pick, at, _⇒_}
 use Rattle.laws.specs.Search.{someBelow, allBelow, someIn, allIn}
 use Rattle.laws.specs.Bits.{marks}
 use Rattle.model.specs.Sizes.{guests, physicals, pages, addresses, firstHostPage, firstFreePage, ways, lines, sets, slots, stealth, stealthSet, reserved, setOf, slotOf, calls, marksBound, valueBound}
-use Rattle.model.specs.State.{State, ownerNone, ownerHost, ownerGuest, kindNone, kindData, kindTable, running, lead, isPage, nowhere, stealthLine, lineAt, mapsPage}
+use Rattle.model.specs.Names.{ownerNone, ownerHost, ownerGuest, kindNone, kindData, kindTable, running}
+use Rattle.model.specs.State.{State, lead, isPage, nowhere, stealthLine, lineAt, mapsPage}
 use Rattle.model.specs.History.{start, histories}
 use Rattle.model.specs.Records.{within, rowOf, kindOfCall}
 

@@ -9,7 +9,8 @@ use Prim.Native.Nat.{ℕ, suc, _+_, _*_, _/_, _^_, _≤_, _<_}
 use Rattle.laws.specs.Choice.{at}
 use Rattle.laws.specs.Bits.{bit}
 use Rattle.model.specs.Sizes.{guests, physicals, pages, addresses, firstHostPage, firstFreePage, ways, lines, sets, slots, stealth, stealthSet, reserved, setOf, slotOf, calls, marksBound, valueBound}
-use Rattle.model.specs.State.{Pages, Guests, Cache, Tlb, Values, State, ownerNone, ownerHost, ownerGuest, kindNone, kindData, kindTable, running, stealthLine, lineAt}
+use Rattle.model.specs.Names.{ownerNone, ownerHost, ownerGuest, kindNone, kindData, kindTable, running}
+use Rattle.model.specs.State.{Pages, Guests, Cache, Tlb, Values, State, stealthLine, lineAt}
 use Rattle.model.specs.History.{start, histories}
 use Rattle.model.specs.Records.{Row, rowOf, kindOfCall}
 

@@ -7,35 +7,7 @@ use lib.Dec.{ltb, eqb}
 use Rattle.laws.specs.Choice.{pick, at}
 use Rattle.laws.specs.Search.{firstBelow, someIn}
 use Rattle.model.specs.Sizes.{physicals, pages, addresses, ways, lines, setOf, stealthSet}
-
--- ---- numbers that stand for names
-
--- the owner of a page: none, the host, or a guest
-abbrev pub ownerNone : ℕ
-ownerNone = 0
-
-abbrev pub ownerHost : ℕ
-ownerHost = 1
-
-abbrev pub ownerGuest : ℕ → ℕ
-ownerGuest g = 2 + g
-
--- the kind of a page: none, data, table
-abbrev pub kindNone : ℕ
-kindNone = 0
-
-abbrev pub kindData : ℕ
-kindData = 1
-
-abbrev pub kindTable : ℕ
-kindTable = 2
-
--- the active guest waits, and the host has control; or it runs
-abbrev pub waiting : ℕ
-waiting = 0
-
-abbrev pub running : ℕ
-running = 1
+use Rattle.model.specs.Names.{kindTable}
 
 -- ---- the state
 

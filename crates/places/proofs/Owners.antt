@@ -10,7 +10,7 @@ use Rattle.laws.specs.Choice.{_⇒_}
 use Rattle.laws.specs.Search.{allBelow}
 use Rattle.laws.proofs.Cases.{split, same?}
 use Rattle.model.specs.Sizes.{guests}
-use Rattle.model.specs.State.{ownerGuest}
+use Rattle.model.specs.Names.{ownerGuest}
 use Rattle.seek.proofs.Loops.{all-made, all-fails}
 
 module _ (o : ℕ) (f : ℕ → Bool) where

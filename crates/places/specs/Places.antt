@@ -7,7 +7,8 @@ use Rattle.laws.specs.Choice.{at, _⇒_}
 use Rattle.laws.specs.Bits.{marks}
 use Rattle.laws.specs.Search.{someBelow, allBelow}
 use Rattle.model.specs.Sizes.{guests, physicals, pages, addresses, stealth, firstHostPage, firstFreePage}
-use Rattle.model.specs.State.{State, ownerNone, ownerHost, ownerGuest, kindNone, kindData, kindTable, running, lead, isPage}
+use Rattle.model.specs.Names.{ownerNone, ownerHost, ownerGuest, kindNone, kindData, kindTable, running}
+use Rattle.model.specs.State.{State, lead, isPage}
 use Rattle.model.specs.RuleTests.{leadsTo, stored, fits}
 use Rattle.host.specs.Lead.{leadOf}
 use Rattle.seek.specs.Leads.{leadsAt}

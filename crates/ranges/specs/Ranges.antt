@@ -5,7 +5,8 @@ use Prim.Native.Nat.{ℕ, suc, _+_, _*_, _/_, _%_}
 use lib.Dec.{ltb, eqb}
 use Rattle.laws.specs.Choice.{at, _⇒_}
 use Rattle.model.specs.Sizes.{guests, physicals, pages, addresses, calls, marksBound}
-use Rattle.model.specs.State.{State, ownerGuest, kindTable}
+use Rattle.model.specs.Names.{ownerGuest, kindTable}
+use Rattle.model.specs.State.{State}
 use Rattle.model.specs.History.{histories}
 use Rattle.model.specs.RuleTests.{fits}
 

@@ -11,7 +11,8 @@ use Rattle.laws.proofs.Tests.{eq⇔, lt⇔, and⇔, imp⇔, as⇔}
 use Rattle.laws.proofs.Search.{all⇔}
 use Rattle.laws.proofs.Grid.{place-of}
 use Rattle.model.specs.Sizes.{guests, physicals, pages, addresses, lines, sets, slots, calls, marksBound}
-use Rattle.model.specs.State.{State, ownerGuest, kindTable, running}
+use Rattle.model.specs.Names.{ownerGuest, kindTable, running}
+use Rattle.model.specs.State.{State}
 use Rattle.model.specs.History.{histories}
 use Rattle.model.specs.Records.{rowOf, kindOfCall}
 use Rattle.model.specs.Rules.{Fits, Rule10}

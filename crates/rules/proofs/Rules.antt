@@ -10,7 +10,8 @@ use Rattle.laws.specs.Choice.{at, _⇒_}
 use Rattle.laws.specs.Search.{allBelow, someBelow}
 use Rattle.laws.proofs.Grid.{place-of}
 use Rattle.model.specs.Sizes.{guests, physicals, pages, addresses, lines, ways, slots, setOf, slotOf}
-use Rattle.model.specs.State.{State, ownerGuest, kindData, isPage, table, mapsPage}
+use Rattle.model.specs.Names.{ownerGuest, kindData}
+use Rattle.model.specs.State.{State, isPage, table, mapsPage}
 use Rattle.model.specs.Valid.{Sized}
 use Rattle.model.specs.RuleTests.{leadsTo, rule3?, rule4?, rule7?, rule8?}
 use Rattle.host.specs.Lead.{leadOf}

@@ -8,7 +8,7 @@ use native.Mathlib.Omega.{arith}
 use Rattle.laws.specs.Choice.{at}
 use Rattle.laws.specs.Search.{someBelow}
 use Rattle.model.specs.Sizes.{physicals}
-use Rattle.model.specs.State.{ownerGuest}
+use Rattle.model.specs.Names.{ownerGuest}
 use Rattle.host.specs.Lead.{leadOf}
 use Rattle.host.specs.View.{view}
 use Rattle.seek.specs.Leads.{leadsAt, sought}

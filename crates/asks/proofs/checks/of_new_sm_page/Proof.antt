@@ -3,7 +3,7 @@
 use mathlib.Core.Path.{sym, _∙_}
 use borrow.Author.Tests.{eq-eqb, ne-eqb}
 use Rattle.laws.specs.Choice.{at}
-use Rattle.model.specs.State.{kindData}
+use Rattle.model.specs.Names.{kindData}
 use Rattle.host.specs.View.{view}
 use borrow.Author.Needs.{needs}
 use Rattle.asks.proofs.checks.of_new_sm_page.Statement.{statement}
