@@ -16,3 +16,4 @@ pub mod Fresh
 pub mod Rations
 pub mod Samples
 pub mod Journals
+pub mod Drawn

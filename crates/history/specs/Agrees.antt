@@ -1,14 +1,17 @@
 -- A valid state and a book agree.
 -- Assumes nothing.
 use mathlib.Core.Path.{_≡_}
+use mathlib.Core.Bool.{_&&_, not}
 use mathlib.Core.Logic.{_↔_}
 use mathlib.Core.List.{List}
-use mathlib.Core.Option.{some}
+use mathlib.Core.Option.{Option, none, some}
 use Prim.Native.Nat.{ℕ, suc, _+_, _*_, _<_}
-use Rattle.laws.specs.Choice.{at}
+use lib.Dec.{ltb, eqb}
+use Rattle.laws.specs.Choice.{pick, at}
+use Rattle.laws.specs.Search.{firstBelow}
 use Rattle.model.specs.Sizes.{guests, physicals, addresses}
 use Rattle.model.specs.Names.{kindNone, kindData}
-use Rattle.model.specs.State.{State, present}
+use Rattle.model.specs.State.{State, active, kindOf, pageAt, present}
 use Rattle.history.specs.Past.{Book}
 
 -- guest g has page p at its physical address pa
@@ -36,3 +39,21 @@ pub record Charts (kinds entry physical currents : List ℕ) (guest : ℕ) (b : 
 pub record Agrees (s : State) (b : Book) : Type 0 where
   pub chart : Charts (s .shape .pages .kind) (s .shape .pages .entry) (s .shape .pages .physical) (s .shape .guests .current) (s .shape .guests .active) b
   pub value : (g pa p : ℕ) → Has (s .shape .pages .physical) g pa p → at (s .shape .pages .kind) p ≡ kindData → present s p ≡ b .value g pa
+
+-- ---- the book of a state: what a run that starts there starts with
+
+-- the physical address of guest g whose place holds e, if e is no empty place
+unfoldable pub addressOf : List ℕ → ℕ → ℕ → Option ℕ
+addressOf physical g e =
+    let pa = firstBelow physicals (λ pa. eqb (at physical (physicals * g + pa)) e) in
+    pick (ltb pa physicals && not (eqb e 0)) (some pa) none
+
+abbrev pub bookOf : State → Book
+bookOf s =
+    record {
+      active = active (s .shape);
+      current = λ g. at (s .shape .guests .current) g;
+      kind = λ g pa. kindOf (s .shape) (pageAt (s .shape) g pa);
+      link = λ g pt va. addressOf (s .shape .pages .physical) g (at (s .shape .pages .entry) (addresses * pageAt (s .shape) g pt + va));
+      value = λ g pa. present s (pageAt (s .shape) g pa);
+    }
