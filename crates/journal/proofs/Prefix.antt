@@ -9,7 +9,7 @@ use lib.ListN.{length, take, drop, getD}
 use lib.Seq.{take-add, take-at, drop-at, take-take, length-take-le, getD-take, ext-getD}
 use Rattle.laws.specs.Choice.{at}
 use Rattle.laws.specs.Search.{listFrom, listOf}
-use Rattle.laws.proofs.Lists.{length-listOf, getD-listOf}
+use Rattle.laws.proofs.Lists.{length-listOf, listFrom-append, listOf-same}
 use Rattle.model.specs.Sizes.{recordBytes, answerBytes, headerBytes, recordLimit}
 use Rattle.model.specs.State.{State}
 use Rattle.model.specs.Valid.{valid?}
@@ -29,30 +29,6 @@ use Rattle.journal.proofs.Reports.{form, form-header, form-fits, no-ref
 use Rattle.journal.proofs.Answers.{reportIn}
 
 -- ---- lists
-
-from-more {ℓ} : {A : Type ℓ} (m n i : ℕ) (f : ℕ → A) → listFrom (m + n) i f ≡ listFrom m i f ++ listFrom n (i + m) f
-unfolding listFrom
-from-more zero n i f = λ k. listFrom (plain k) (flat k) f
-  where
-    plain : zero + n ≡ n
-    plain = omega arith
-
-    flat : i ≡ i + zero
-    flat = omega arith
-from-more {A = A} (suc m) n i f =
-    ap (λ (k : ℕ). listFrom k i f) one
-    ∙ ap (λ (l : List A). f i ∷ l) (from-more m n (suc i) f ∙ ap (λ (k : ℕ). listFrom m (suc i) f ++ listFrom n k f) next)
-  where
-    one : suc m + n ≡ suc (m + n)
-    one = omega arith
-
-    next : suc i + m ≡ i + suc m
-    next = omega arith
-
-same-list {ℓ} : {A : Type ℓ} (n : ℕ) (f g : ℕ → A) (d : A) → ((i : ℕ) → i < n → f i ≡ g i) → listOf n f ≡ listOf n g
-same-list n f g d h =
-    ext-getD d (listOf n f) (listOf n g) (length-listOf n f ∙ sym (length-listOf n g))
-    (λ i k. let l : i < n = omega (arith, length-listOf n f) in getD-listOf n f d i l ∙ h i l ∙ sym (getD-listOf n g d i l))
 
 -- n elements from place p on, of the first q
 part-of-first : (p n q : ℕ) (l : List ℕ) → p + n ≤ q → q ≤ length l → take n (drop p (take q l)) ≡ take n (drop p l)
@@ -84,14 +60,14 @@ module _ (j b : List ℕ) (k : ℕ) (e : form j b ≡ 0) (h : k ≤ taken j) whe
   cut-records =
       let f = form-fits j b e in
       ap (λ (n : ℕ). listOf n (recordAt (firstOf k j))) cut-taken
-      ∙ same-list k (recordAt (firstOf k j)) (recordAt j) []
+      ∙ listOf-same k []
       (λ i l. part-of-first (headerBytes + recordBytes * i) recordBytes (headerBytes + recordBytes * k) j (omega arith) (omega arith))
 
   whole-records : recordsOf j ≡ recordsOf (firstOf k j) ++ restOf k j
   whole-records =
       let s : k + (taken j - k) ≡ taken j = omega arith in
       ap (λ (n : ℕ). listOf n (recordAt j)) (sym s)
-      ∙ from-more k (taken j - k) 0 (recordAt j)
+      ∙ listFrom-append k (taken j - k) 0 (recordAt j)
       ∙ ap (λ (n : ℕ). listOf k (recordAt j) ++ listFrom (taken j - k) n (recordAt j)) (omega arith)
       ∙ ap (λ (l : List (List ℕ)). l ++ restOf k j) (sym cut-records)
 

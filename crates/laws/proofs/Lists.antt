@@ -2,12 +2,12 @@
 -- Assumes nothing.
 use mathlib.Core.Path.{_≡_, refl, sym, ap, _∙_, subst}
 use mathlib.Core.Logic.{_⊎_, inl, inr, _≢_}
-use mathlib.Core.List.{List}
+use mathlib.Core.List.{List, [], _∷_, _++_}
 use Prim.Native.Nat.{ℕ, zero, suc, _+_, _≤_, _<_}
 use native.Mathlib.Nat.{add-zero, add-suc, suc-add, zero-add}
 use native.Mathlib.Omega.{arith}
 use lib.ListN.{length, getD, set, List·getD-eq-default}
-use lib.Seq.{getD-set-same, getD-set-other, set-out}
+use lib.Seq.{getD-set-same, getD-set-other, set-out, ext-getD}
 use Rattle.laws.specs.Choice.{at}
 use Rattle.laws.specs.Search.{listFrom, listOf}
 use Rattle.laws.proofs.Cases.{same?, below?}
@@ -66,3 +66,23 @@ module _ {ℓ} {A : Type ℓ} where
 
   pub getD-listOf : (n : ℕ) (f : ℕ → A) (d : A) (j : ℕ) → j < n → getD (listOf n f) j d ≡ f j
   getD-listOf n f d j h = getD-listFrom n 0 j f d h ∙ ap f (zero-add j)
+
+  -- the first m places and the n after them
+  pub listFrom-append : (m n i : ℕ) (f : ℕ → A) → listFrom (m + n) i f ≡ listFrom m i f ++ listFrom n (i + m) f
+  unfolding listFrom
+  listFrom-append zero n i f = ap (λ (k : ℕ). listFrom k i f) (zero-add n) ∙ ap (λ (k : ℕ). listFrom n k f) (sym (add-zero i))
+  listFrom-append (suc m) n i f =
+      ap (λ (k : ℕ). listFrom k i f) (suc-add m n)
+      ∙ ap (λ (l : List A). f i ∷ l)
+      (listFrom-append m n (suc i) f ∙ ap (λ (k : ℕ). listFrom m (suc i) f ++ listFrom n k f) (suc-add i m ∙ sym (add-suc i m)))
+
+  pub listOf-more : (n : ℕ) (f : ℕ → A) → listOf (suc n) f ≡ listOf n f ++ f n ∷ []
+  unfolding listFrom
+  listOf-more n f =
+      let e : suc n ≡ n + 1 = omega arith in
+      ap (λ (k : ℕ). listOf k f) e ∙ listFrom-append n 1 0 f ∙ ap (λ (k : ℕ). listOf n f ++ f k ∷ []) (zero-add n)
+
+  pub listOf-same : (n : ℕ) {f g : ℕ → A} (d : A) → ((i : ℕ) → i < n → f i ≡ g i) → listOf n f ≡ listOf n g
+  listOf-same n {f} {g} d h =
+      ext-getD d (listOf n f) (listOf n g) (length-listOf n f ∙ sym (length-listOf n g))
+      (λ i k. let l : i < n = omega (arith, length-listOf n f) in getD-listOf n f d i l ∙ h i l ∙ sym (getD-listOf n g d i l))

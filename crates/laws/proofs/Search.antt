@@ -9,7 +9,7 @@ use native.Mathlib.Omega.{arith}
 use lib.ListN.{length, getD}
 use borrow.Author.Tests.{ltb-true, lt-ltb}
 use Rattle.laws.specs.Choice.{pick, _⇔_}
-use Rattle.laws.specs.Search.{firstFrom, firstBelow, someBelow, allBelow, seekFrom, seek, someIn, allIn, countBelow}
+use Rattle.laws.specs.Search.{firstFrom, firstBelow, someBelow, allBelow, seekFrom, seek, someIn, allIn, countBelow, listFrom}
 use Rattle.laws.proofs.Cases.{split, same?, below?}
 use Rattle.laws.proofs.Tests.{not⇔, true⇔, as⇔}
 
@@ -145,6 +145,11 @@ at-entry f d l e = allIn⇔ f d l (λ i b. true⇔ (f i (getD l i d))) .0 e
 abbrev pub Each {ℓ κ} : {A : Type ℓ} → (A → Type κ) → List A → Type κ
 Each P [] = Unit {κ}
 Each P (x ∷ l) = P x × Each P l
+
+pub each-listFrom {ℓ κ} : {A : Type ℓ} (P : A → Type κ) (f : ℕ → A) → ((i : ℕ) → P (f i)) → (n i : ℕ) → Each P (listFrom n i f)
+unfolding listFrom
+each-listFrom P f h zero i = tt
+each-listFrom P f h (suc n) i = (h i, each-listFrom P f h n (suc i))
 
 module _ {ℓ κ} {A : Type ℓ} (P : A → Type κ) (d : A) where
   each-of : (l : List A) → ((i : ℕ) → i < length l → P (getD l i d)) → Each P l

@@ -5,3 +5,4 @@ pub mod Records
 pub mod Run
 pub mod Journal
 pub mod Shape
+pub mod Bytes

@@ -13,8 +13,8 @@ use Rattle.laws.specs.Choice.{pick, at}
 use Rattle.laws.specs.Search.{listFrom, listOf}
 use Rattle.laws.proofs.Cases.{below?, pick-both, pick-yes, pick-not}
 use Rattle.laws.proofs.Tests.{lt⇔, not-so}
-use Rattle.laws.proofs.Lists.{at-past, length-listOf}
-use Rattle.laws.proofs.Search.{Each}
+use Rattle.laws.proofs.Lists.{length-listOf, listOf-more}
+use Rattle.laws.proofs.Search.{Each, each-listFrom}
 use Rattle.model.specs.Sizes.{recordBytes, answerBytes}
 use Rattle.model.specs.State.{State}
 use Rattle.model.specs.Records.{Bytes}
@@ -23,6 +23,7 @@ use Rattle.model.specs.Step.{Answer, done, refused, numberOf, Outcome, judge}
 use Rattle.model.specs.Run.{Ran, runBy, run}
 use Rattle.model.specs.Journal.{pasted, acceptedIn}
 use Rattle.model.proofs.Valid.{valid⇔}
+use Rattle.model.proofs.Bytes.{part-bytes}
 use Rattle.model.proofs.Run.{andThen, run-append, run-length}
 use Rattle.keeps.proofs.Keeps.{judge-keeps, run-judges}
 use Rattle.steps.specs.Acting.{judged}
@@ -33,19 +34,6 @@ use Rattle.steps.specs.Promises.{answerTo, Gives}
 use Rattle.steps.specs.Turns.{answerFrom, Stores, Turns, Plays, answerAt, counts}
 use Rattle.steps.proofs.Judging.{judged-valid}
 use Rattle.steps.proofs.Storing.{accepted-more, length-pasted, pasted-more}
-
--- ---- lists by index
-
-listFrom-more {ℓ} : {A : Type ℓ} (n i : ℕ) (f : ℕ → A) → listFrom (suc n) i f ≡ listFrom n i f ++ f (i + n) ∷ []
-unfolding listFrom
-listFrom-more zero i f = ap (λ (k : ℕ). f k ∷ []) (omega arith)
-listFrom-more {A = A} (suc n) i f =
-    ap (λ (l : List A). f i ∷ l) (listFrom-more n (suc i) f ∙ ap (λ (k : ℕ). listFrom n (suc i) f ++ f k ∷ []) (omega arith))
-
-each-from {ℓ κ} : {A : Type ℓ} (P : A → Type κ) (n i : ℕ) (f : ℕ → A) → ((k : ℕ) → P (f k)) → Each P (listFrom n i f)
-unfolding listFrom
-each-from P zero i f h = tt
-each-from P (suc n) i f h = (h i, each-from P n (suc i) f h)
 
 -- ---- how many can be run
 
@@ -118,7 +106,7 @@ module _ (s : State) (j : List ℕ) (start : ℕ) (b : List ℕ) where
   ran-more : (n : ℕ) → ran (suc n) ≡ more n
   unfolding runBy
   ran-more n =
-      ap (runBy judged s) (listFrom-more n 0 (recordFrom j start) ∙ ap (λ (k : ℕ). recordsFrom j start n ++ recordFrom j start k ∷ []) (omega arith))
+      ap (runBy judged s) (listOf-more n (recordFrom j start))
       ∙ run-append judged s (recordsFrom j start n) (recordFrom j start n ∷ [])
 
   pub played-length : {n k : ℕ} {t : State} {c : List ℕ} → answerBytes * n ≤ length b → Plays s j start n b k t c → length c ≡ length b
@@ -161,19 +149,13 @@ run-judged {s} v (r ∷ rs) b =
     after : Outcome → Ran → Ran
     after o t = record { answers = o .answer ∷ t .answers; state = t .state }
 
-bytes-part : (f n : ℕ) (l : List ℕ) → Bytes l → Bytes (take n (drop f l))
-bytes-part f n l b i h =
-    let k : i < n = omega (arith, length-take n (drop f l)) in
-    let e : at (take n (drop f l)) i ≡ at l (f + i) = getD-take n (drop f l) i 0 k ∙ getD-drop f l i 0 in
-    below? (f + i) (length l) (λ g. omega (arith, e, b (f + i) g)) (λ g. omega (arith, e, at-past l (f + i) g))
-
 module _ (s : State) (j : List ℕ) (start : ℕ) (b : List ℕ) (n : ℕ) where
   first-played : valid? s ≡ true → Bytes j → {k : ℕ} {t : State} {c : List ℕ} → Plays s j start n b k t c
       → RunsFirst n s j start b (Took n k) t c
   first-played e w p =
       let v = valid⇔ s .0 e in
       let rs = recordsFrom j start n in
-      let y = each-from Bytes n 0 (recordFrom j start) (λ i. bytes-part (start + recordBytes * i) recordBytes j w) in
+      let y = each-listFrom Bytes (recordFrom j start) (λ i. part-bytes j w (start + recordBytes * i) recordBytes) n 0 in
       let r : runBy judged s rs ≡ run s rs = run-judged v rs y ∙ sym (run-judges v rs y) in
       record {
         result = ap (Took n) (p .counted ∙ ap (λ (x : Ran). acceptedIn (x .answers)) r) ∙ sym (pick-yes (tookOf (run s rs) n) (Refused 1) e);
