@@ -67,7 +67,8 @@ ghost use Prim.Native.Nat.{ℕ, _+_, _*_, _<_, _≤_};
 ghost use lib.Dec.{eqb};
 ghost use Rattle.laws.specs.Choice.{at};
 ghost use Rattle.model.specs.Sizes.{addresses, physicals};
-ghost use Rattle.host.specs.View.{bytes, view, Whole, listed, column, put, ownerField, kindField, cacheableField, entryField, physicalField, currentField, callField, callAField, callBField, lineAddressField, linePageField, historyField, slotAddressField, slotPageField};
+ghost use Rattle.host.specs.Cut.{begin, size};
+ghost use Rattle.host.specs.View.{sizes, bytes, view, Whole, listed, column, put, ownerField, kindField, cacheableField, entryField, physicalField, currentField, callField, callAField, callBField, lineAddressField, linePageField, historyField, slotAddressField, slotPageField};
 ghost use Rattle.host.specs.Lead.{leadOf, heldOf};
 
 pub type Host = [u8; SIZE];
@@ -95,12 +96,19 @@ struct Field {
     size: usize,
 }
 
+fn extent(k: usize) -> Field
+    requires { ⌜ listed k ≡ true ⌝ }
+    ensures { λ r. ⌜ (r .start ≡ begin sizes k) × (r .size ≡ size sizes k) ⌝ }
+{
+    FIELDS[k]
+}
+
 // Byte i of field k, 0 past its end.
 fn get(h: &Host, k: usize, i: usize) -> u8
     requires { ⌜ listed k ≡ true ⌝ }
     ensures { λ r. ⌜ r ≡ at (column k (view (now (h .entry)))) i ⌝ }
 {
-    let f = FIELDS[k];
+    let f = extent(k);
     let start = f.start;
     let size = f.size;
     if i < size { h[start + i] } else { 0 }
@@ -111,7 +119,7 @@ fn set(h: &mut Host, k: usize, i: usize, v: u8)
     requires { ⌜ listed k ≡ true ⌝ }
     ensures { λ _. ⌜ view (now (h .exit)) ≡ put k (view (now (h .entry))) i v ⌝ }
 {
-    let f = FIELDS[k];
+    let f = extent(k);
     let start = f.start;
     let size = f.size;
     if i < size {
