@@ -137,26 +137,26 @@ module _ (j b : List ℕ) (k : ℕ) (e : form j b ≡ 0) (h : k ≤ taken j) whe
 -- ---- at exit
 
 -- after a journal that was run: of its first k records alone, the same answers, so many taken, and the state from which the others went on
-module _ (s : State) (j b : List ℕ) {r : Report} {t : State} {c : List ℕ} (p : Runs s j b (Done r) t c) (k : ℕ) (h : k ≤ r .taken) where
+module _ (s : State) (j b : List ℕ) {r : Report} {t : State} {c : List ℕ} (p : Runs s j b (Done r) t c) where
   was-run : journalRefusal s j b ≡ 0
   was-run =
       either (λ (a : After). Done r ≡ verdictTo (a .verdict) → journalRefusal s j b ≡ 0) s j b (λ q f. q)
       (λ q f. let z : _≡_ {A = ℕ} 0 1 = cc f in absurd (omega arith)) (p .verdict)
 
-  run-valid : valid? s ≡ true
+  pub run-valid : valid? s ≡ true
   run-valid = no-refusal s j b was-run .0
 
-  run-form : form j b ≡ 0
+  pub run-form : form j b ≡ 0
   run-form = no-refusal s j b was-run .1
 
-  all-taken : r .taken ≡ taken j
+  pub all-taken : r .taken ≡ taken j
   all-taken =
       ap (λ (v : Verdict). reportIn v .taken) (p .verdict ∙ ap (λ (a : After). verdictTo (a .verdict)) (played-journal s j b run-valid run-form))
 
-  up-to : k ≤ taken j
-  up-to = omega (arith, all-taken)
+  module _ (k : ℕ) (h : k ≤ r .taken) {v : Verdict} {u : State} {d : List ℕ} (q : Runs s (firstOf k j) b v u d) where
+    up-to : k ≤ taken j
+    up-to = omega (arith, all-taken)
 
-  module _ {v : Verdict} {u : State} {d : List ℕ} (q : Runs s (firstOf k j) b v u d) where
     pub first-answers : take (answerBytes * k) c ≡ take (answerBytes * k) d
     first-answers =
         ap (take (answerBytes * k)) (p .buffer)

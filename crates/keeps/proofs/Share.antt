@@ -100,16 +100,16 @@ rule9-page {entry} {lineAddress} {linePage} {m = m} q n r =
 
 -- ---- in a state
 
+-- the present value of any page is in range
+pub present-below : {s : State} → Core s → (q : ℕ) → present s q < valueBound
+unfolding present
+present-below {s} c q =
+    pick-both (λ (x : ℕ). x < valueBound) (ltb (lineOfPage (s .shape) q) lines)
+    (λ e. c .rule10 .values .line (lineOfPage (s .shape) q) (ltb-true (lineOfPage (s .shape) q) lines e))
+    (λ e. below-any (s .values .memory) (c .sized .memory) (omega arith) (c .rule10 .values .memory) q)
+
 module _ {s : State} (c : Core s) (q : ℕ) (guest : q < pages → GuestData (s .shape) q)
     (apart : (m : ℕ) → Maps (s .shape .pages .kind) (s .shape .pages .entry) m stealth q → ⊥) where
-  -- the present value of any page is in range
-  present-value : present s q < valueBound
-  unfolding present
-  present-value =
-      pick-both (λ (x : ℕ). x < valueBound) (ltb (lineOfPage (s .shape) q) lines)
-      (λ e. c .rule10 .values .line (lineOfPage (s .shape) q) (ltb-true (lineOfPage (s .shape) q) lines e))
-      (λ e. below-any (s .values .memory) (c .sized .memory) (omega arith) (c .rule10 .values .memory) q)
-
   -- an empty place is all zero, and stays so
   empty-kept : (j : ℕ) → j < lines → at (cleared (s .shape .cache .linePage) q (s .shape .cache .linePage)) j ≡ 0
       → (at (cleared (s .shape .cache .linePage) q (s .shape .cache .lineAddress)) j ≡ 0) × (at (cleared (s .shape .cache .linePage) q (s .values .line)) j ≡ 0)
@@ -146,7 +146,7 @@ module _ {s : State} (c : Core s) (q : ℕ) (guest : q < pages → GuestData (s 
               physical = c .rule10 .pages .physical;
               free = c .rule10 .pages .free;
             };
-        values = below-set (s .values .memory) q (present s q) present-value (c .rule10 .values .memory);
+        values = below-set (s .values .memory) q (present s q) (present-below c q) (c .rule10 .values .memory);
       })
       (guests-of c)
       (record {

@@ -76,6 +76,11 @@ module _ {ℓ} {A : Type ℓ} where
       ∙ ap (λ (l : List A). f i ∷ l)
       (listFrom-append m n (suc i) f ∙ ap (λ (k : ℕ). listFrom m (suc i) f ++ listFrom n k f) (suc-add i m ∙ sym (add-suc i m)))
 
+  pub listFrom-shift : (n i : ℕ) (f : ℕ → A) → listFrom n (suc i) f ≡ listFrom n i (λ k. f (suc k))
+  unfolding listFrom
+  listFrom-shift zero i f = refl
+  listFrom-shift (suc n) i f = ap (λ (l : List A). f (suc i) ∷ l) (listFrom-shift n (suc i) f)
+
   pub listOf-more : (n : ℕ) (f : ℕ → A) → listOf (suc n) f ≡ listOf n f ++ f n ∷ []
   unfolding listFrom
   listOf-more n f =

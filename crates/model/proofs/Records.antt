@@ -26,7 +26,7 @@ digits : (v q₁ q₂ q₃ r₀ r₁ r₂ : ℕ) → byteBound * q₁ + r₀ ≡
     → r₀ + byteBound * r₁ + byteBound ^ 2 * r₂ + byteBound ^ 3 * q₃ ≡ v
 digits v q₁ q₂ q₃ r₀ r₁ r₂ e f g = omega arith
 
-word-back : (v : ℕ) → v < valueBound
+pub word-back : (v : ℕ) → v < valueBound
     → v % byteBound + byteBound * (v / byteBound % byteBound) + byteBound ^ 2 * (v / byteBound ^ 2 % byteBound) + byteBound ^ 3 * (v / byteBound ^ 3 % byteBound) ≡ v
 word-back v h =
     let top : v / byteBound ^ 3 % byteBound ≡ v / byteBound ^ 3 = mod-eq-of-lt (omega arith) in

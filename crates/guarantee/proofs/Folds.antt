@@ -1,0 +1,65 @@
+-- Demand 3 of `step`, record after record.
+-- Assumes nothing.
+use mathlib.Core.Path.{_≡_, refl, sym, ap, ap₂, subst, _∙_}
+use mathlib.Core.List.{List, [], _∷_, map}
+use Prim.Native.Nat.{ℕ}
+use Rattle.laws.proofs.Search.{Each}
+use Rattle.model.specs.State.{State}
+use Rattle.model.specs.Fresh.{fresh}
+use Rattle.model.specs.Records.{Bytes}
+use Rattle.model.specs.Valid.{Valid}
+use Rattle.model.specs.Step.{numberOf, valueOf, step}
+use Rattle.model.specs.Step as model
+use Rattle.model.specs.Run.{Ran, run, runBy}
+use Rattle.keeps.proofs.Fresh.{fresh-valid}
+use Rattle.history.specs.Past.{Book, freshBook, pastAfter, valuesAfter}
+use Rattle.history.specs.Agrees.{Agrees}
+use Rattle.history.specs.Rations.{Kept}
+use Rattle.history.proofs.Fresh.{fresh-agrees}
+use Rattle.history.proofs.Rations.{rations}
+use Rattle.steps.specs.declared.Answer.{Answer}
+use Rattle.steps.specs.Promises.{answerTo}
+use Rattle.steps.specs.Turns.{answerFrom}
+use Rattle.steps.proofs.Running.{from-to}
+use Rattle.guarantee.specs.Guarantee.{Folds}
+
+-- the answers and the state of `step`, record after record, are those of the model's run
+folds-run : (s t : State) (rs : List (List ℕ)) (xs : List Answer) → Folds s rs xs t → (map answerFrom xs ≡ run s rs .answers) × (t ≡ run s rs .state)
+unfolding runBy
+folds-run s t [] [] h = (refl, h)
+folds-run s t [] (x ∷ xs) h = absurd h
+folds-run s t (r ∷ rs) [] h = absurd h
+folds-run s t (r ∷ rs) (x ∷ xs) h =
+    let q = folds-run (h .0) t rs xs (h .2) in
+    let e = h .1 .state in
+    let a : answerFrom x ≡ step s r .answer = ap answerFrom (h .1 .answer) ∙ from-to (step s r .answer) in (
+      ap₂ _∷_ a (q .0 ∙ ap (λ (u : State). run u rs .answers) e),
+      q .1 ∙ ap (λ (u : State). run u rs .state) e,
+    )
+
+module _ {s : State} (v : Valid s) {b : Book} (a : Agrees s b) (rs : List (List ℕ)) (w : Each Bytes rs) (xs : List Answer) (t : State)
+    (p : Folds s rs xs t) where
+  abbrev given : List model.Answer
+  given = map answerFrom xs
+
+  same-answers : run s rs .answers ≡ given
+  same-answers = sym (folds-run s t rs xs p .0)
+
+  -- what the state holds, by the actions whose answers' numbers are 0
+  pub steps-keep : Kept b s (pastAfter [] rs (map numberOf given)) t
+  steps-keep =
+      subst (λ (l : List model.Answer). Kept b s (pastAfter [] rs (map numberOf l)) t) same-answers
+      (subst (λ (x : State). Kept b s (pastAfter [] rs (map numberOf (run s rs .answers))) x) (sym (folds-run s t rs xs p .1)) (rations v a rs w .kept))
+
+  -- and what each record answered
+  pub steps-answer : map valueOf given ≡ valuesAfter b [] rs (map numberOf given)
+  steps-answer =
+      subst (λ (l : List model.Answer). map valueOf l ≡ valuesAfter b [] rs (map numberOf l)) same-answers (rations v a rs w .answers)
+
+pub fresh-keep : (rs : List (List ℕ)) → Each Bytes rs → (xs : List Answer) (t : State) → Folds fresh rs xs t
+    → Kept freshBook fresh (pastAfter [] rs (map numberOf (map answerFrom xs))) t
+fresh-keep rs w xs t p = steps-keep fresh-valid fresh-agrees rs w xs t p
+
+pub fresh-answer : (rs : List (List ℕ)) → Each Bytes rs → (xs : List Answer) (t : State) → Folds fresh rs xs t
+    → map valueOf (map answerFrom xs) ≡ valuesAfter freshBook [] rs (map numberOf (map answerFrom xs))
+fresh-answer rs w xs t p = steps-answer fresh-valid fresh-agrees rs w xs t p
