@@ -1,17 +1,16 @@
--- Rule 9 is its tests of set 7, and the table in force is what code reads.
+-- Rule 9 is its tests of set 7.
 -- Assumes nothing.
 use mathlib.Core.Path.{_≡_, sym, ap, _∙_}
 use mathlib.Core.Bool.{Bool, true, _&&_}
-use Prim.Native.Nat.{ℕ, suc, _+_, _*_, _<_}
+use Prim.Native.Nat.{ℕ, suc, _<_}
 use native.Mathlib.Omega.{arith}
-use lib.Dec.{ltb, eqb}
+use lib.Dec.{eqb}
 use borrow.Author.Tests.{ltb-true}
 use Rattle.laws.specs.Choice.{pick, at}
 use Rattle.laws.specs.Search.{allBelow}
 use Rattle.laws.proofs.Cases.{split, same?}
-use Rattle.model.specs.Sizes.{guests, physicals, pages, ways, stealth, stealthSet}
-use Rattle.model.specs.Names.{kindTable}
-use Rattle.model.specs.State.{State, lead, isPage, nowhere, table, lineAt, stealthLine}
+use Rattle.model.specs.Sizes.{pages, ways, stealth, stealthSet}
+use Rattle.model.specs.State.{State, isPage, table, lineAt, stealthLine}
 use Rattle.model.specs.History.{start}
 use Rattle.model.specs.RuleTests.{stealthPage, rule9?}
 use Rattle.lines.specs.Lines.{firstWay}
@@ -40,11 +39,3 @@ rule9-is s =
     (λ e. rw e))
     ∙ ap (λ (b : Bool). b && eqb (at (s .shape .cache .history) stealthSet) start)
     (sym (two (λ w. pick (eqb w 0 && isPage p) (eqb (l stealthLine) (suc p) && x) (eqb (l (lineAt stealthSet w)) 0))))
-
--- ---- the table in force
-
-pub in-force : (s : State) (g a m k : ℕ) → g ≡ s .shape .guests .active → a ≡ at (s .shape .guests .current) g
-    → m ≡ lead (at (s .shape .pages .physical) (physicals * g + a)) → k ≡ at (s .shape .pages .kind) m
-    → table (s .shape) ≡ pick (ltb a physicals && eqb k kindTable) m nowhere
-unfolding table
-in-force s g a m k p q r t = rw (t, r, q, p)

@@ -2,7 +2,6 @@
 use host::CACHEABLE;
 use host::Host;
 use host::KIND_DATA;
-use host::KIND_TABLE;
 use host::Lead;
 use host::Ma;
 use host::STEALTH;
@@ -21,8 +20,6 @@ const ADDRESSES: u8 = host::ADDRESSES as u8;
 const LINES: u8 = host::LINES as u8;
 
 const PAGES: u8 = host::PAGES as u8;
-
-const PHYSICALS: u8 = host::PHYSICALS as u8;
 
 const SETS: u8 = host::SETS as u8;
 
@@ -59,14 +56,7 @@ pub fn line(h: &Host, i: u8) -> bool
 fn table_in_force(h: &Host) -> Ma
     ensures { λ r. ⌜ r .0 ≡ table (view (now (h .entry)) .shape) ⌝ }
 {
-    let g = host::active(h);
-    let a = host::current(h, g);
-    let m = seek::number_of(host::physical(h, g, a));
-    if (a.0 < PHYSICALS) & (host::kind(h, m) == KIND_TABLE) {
-        m
-    } else {
-        Ma(PAGES)
-    }
+    seek::number_of(asks::table(h))
 }
 
 fn slot_by(h: &Host, m: Ma, i: u8, a: Va, p: Ma) -> bool

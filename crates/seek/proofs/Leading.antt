@@ -22,9 +22,12 @@ lead-le : (e : ℕ) → lead e ≤ pages
 lead-le zero = omega arith
 lead-le (suc p) = below? p pages (λ h. omega (arith, lead-page p h)) (λ h. omega (arith, lead-past p h))
 
+pub number-toward : (n : ℕ) → n ≤ nowhere → number (toward n) ≡ n
+number-toward n k =
+    below? n pages (λ h. ap number (toward-page n h)) (λ h. ap number (toward-none n h) ∙ omega arith)
+
 pub number-lead : (e : ℕ) → number (leadOf e) ≡ lead e
-number-lead e =
-    below? (lead e) pages (λ h. ap number (toward-page (lead e) h)) (λ h. ap number (toward-none (lead e) h) ∙ omega (arith, lead-le e))
+number-lead e = number-toward (lead e) (lead-le e)
 
 -- ---- a lead to a page
 
