@@ -16,6 +16,8 @@ use std::path::Path;
 use std::process::ExitCode;
 use std::time::Instant;
 
+use second::hex::to_hex;
+
 use events::Events;
 use journals::Journal;
 use tally::Tally;
@@ -130,33 +132,41 @@ fn same(
     })
 }
 
-/// The shortest beginning of a journal whose result differs, in hex.
+/// A record after which results differ, with none before it in the journal's beginning up to it, in hex.
 fn first_record(probe: &Path, task: &Task) -> Option<String> {
     let Task::Run { machine, journal, buffer } = task else { return None };
-    let beginnings: Vec<Item> = (0..=journal.len().saturating_sub(8) / 8)
-        .map(|n| {
-            let journal = journal[..journal.len().min(8 + 8 * n)].to_vec();
-            let task = Task::Run { machine: machine.clone(), journal, buffer: buffer.clone() };
-            Item { profile: "beginning", seed: n as u64, task }
-        })
-        .collect();
-    let mut first = None;
-    let _ = programs::probe(probe, &beginnings, |n, ours| {
-        let task = &beginnings[n].task;
-        let Some(text) = difference::of_results(task, &ours, &task.expected()) else {
-            return Ok(());
-        };
-        first = Some(format!("\nfirst after {n} records: {text}\n  journal {}", shown(task)));
-        Err(String::new())
-    });
-    first
+    let differs = |n: usize| {
+        let journal = journal[..journal.len().min(8 + 8 * n)].to_vec();
+        let shown = to_hex(&journal);
+        let task = Task::Run { machine: machine.clone(), journal, buffer: buffer.clone() };
+        let text = differs(probe, Item { profile: "beginning", seed: 0, task })?;
+        Some(format!("\nafter {n} records: {text}\n  journal {shown}"))
+    };
+    // the beginning with `same` records has no difference, the one with `other` has
+    let (mut same, mut other) = (0, journal.len().saturating_sub(8) / 8);
+    if let Some(text) = differs(same) {
+        return Some(text);
+    }
+    while other - same > 1 {
+        let middle = (same + other) / 2;
+        match differs(middle) {
+            None => same = middle,
+            Some(_) => other = middle,
+        }
+    }
+    differs(other)
 }
 
-fn shown(task: &Task) -> String {
-    match task {
-        Task::Run { journal, .. } => second::hex::to_hex(journal),
-        Task::Judge { record, .. } => second::hex::to_hex(record),
-    }
+/// What differs in one task by itself.
+fn differs(probe: &Path, item: Item) -> Option<String> {
+    let mut found = None;
+    let items = [item];
+    let _ = programs::probe(probe, &items, |_, ours| {
+        let task = &items[0].task;
+        found = difference::of_results(task, &ours, &task.expected());
+        Ok(())
+    });
+    found
 }
 
 /// Each journal in a process of `rpj`; gives how many there were.
