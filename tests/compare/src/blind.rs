@@ -51,42 +51,78 @@ fn read(out: &mut Records, va: u8) {
     out.push(record(1, va, 0, 0));
 }
 
-/// Scripts with arguments drawn from few numbers; a guest whose call fails is stuck.
+/// Scripts that are accepted whatever went before; late in the run now and then one that
+/// may not be, and a guest whose call is refused is stuck.
 pub fn scripts(seed: u64, count: usize) -> Records {
-    let mut rng = Rng::new(seed ^ 0x62_6C69_6E64);
+    let mut rng = Rng::new(seed ^ 0x0062_6C69_6E64);
     let mut out = Vec::new();
-    for pa in 1..4 {
-        pin(&mut out, pa, pa == 3);
+    for guest in 0..1 + seed as u8 % 4 {
+        switch(&mut out, guest);
+        for pa in 1..9 {
+            pin(&mut out, pa, TABLES.contains(&pa));
+        }
     }
     while out.len() < count {
-        script(&mut out, &mut rng);
+        let late = out.len() > count / 3 * 2;
+        match rng.below(80) {
+            0 if late => risky(&mut out, &mut rng),
+            0..=20 => careful(&mut out, &mut rng, 1 + seed as usize % 4),
+            21..=50 => write(&mut out, some_address(&mut rng), rng.draw() as u32),
+            _ => read(&mut out, some_address(&mut rng)),
+        }
     }
     out.truncate(count);
     out
 }
 
-fn script(out: &mut Records, rng: &mut Rng) {
-    let va = rng.pick(&[0, 8, 16, 24, 1, 7, 7, 47]).unwrap_or(0);
-    let pa = rng.below(5) as u8;
-    match rng.below(40) {
-        0..=3 => new(out, va, 1 + pa % 2),
-        4 | 5 => del(out, va),
-        6 => serve(out, 3, rng.pick(&[0, 0, 3]).unwrap_or(0), 0),
-        7 | 8 => pin(out, 4 + pa, rng.percent(30)),
-        9 => unpin(out, 4 + pa),
-        10 => switch(out, rng.below(4) as u8),
-        11 => out.extend([RET_CTRL, record(2, va, 0, 0), CHMOD]),
-        12 => out.extend([RET_CTRL, [4, va, 0, 0, pa, 0, 0, pa], CHMOD]),
-        13 => serve(out, 1 + rng.below(5) as u8, va, pa),
-        14 => out.push(record(rng.below(15) as u8, va, pa, rng.below(6) as u8)),
-        15..=27 => write(out, va, rng.draw() as u32),
-        _ => read(out, va),
+/// Physical addresses of data to be mapped anywhere, of data for the stealth address
+/// alone, and of tables.
+const SHARED: [u8; 4] = [1, 2, 3, 4];
+const STEALTHY: [u8; 2] = [5, 6];
+const TABLES: [u8; 3] = [0, 7, 8];
+
+fn some_address(rng: &mut Rng) -> u8 {
+    rng.pick(&[0, 8, 16, 24, 1, 9, 46, 7, 7]).unwrap_or(0)
+}
+
+fn careful(out: &mut Records, rng: &mut Rng, guests: usize) {
+    let va = rng.pick(&[0, 8, 16, 24, 1, 9, 46]).unwrap_or(0);
+    let of = |rng: &mut Rng, from: &[u8]| rng.pick(from).unwrap_or(0);
+    match rng.below(12) {
+        0..=3 => new(out, va, of(rng, &SHARED)),
+        4 => del(out, va),
+        5 => {
+            del(out, 7);
+            new(out, 7, of(rng, &STEALTHY));
+        }
+        6 | 7 => serve(out, 3, of(rng, &TABLES), 0),
+        8 => {
+            pin(out, 9, false);
+            use_page(out, 9, rng.draw() as u32);
+            unpin(out, 9);
+        }
+        9 | 10 => switch(out, rng.below(guests) as u8),
+        _ => out.extend([RET_CTRL, record(2, va, 0, 0), [4, 7, 0, 0, va, 0, 0, 1], CHMOD]),
     }
 }
 
-/// All pages used up over all guests, given back and taken again, with values that must not come back; at the end too many are asked for.
+fn risky(out: &mut Records, rng: &mut Rng) {
+    let va = rng.pick(&[0, 8, 7, 7, 15, 47, 63]).unwrap_or(0);
+    let pa = rng.below(12) as u8;
+    match rng.below(6) {
+        0 => new(out, va, pa),
+        1 => unpin(out, pa),
+        2 => pin(out, pa, rng.percent(50)),
+        3 => serve(out, 3, pa, 0),
+        4 => serve(out, 1 + rng.below(5) as u8, va, pa),
+        _ => out.push(record(rng.below(15) as u8, va, pa, rng.below(6) as u8)),
+    }
+}
+
+/// All pages used up over all guests, given back and taken again, with values that
+/// must not come back; at the end too many are asked for.
 pub fn fill(seed: u64) -> Records {
-    let mut rng = Rng::new(seed ^ 0x66_696C_6C);
+    let mut rng = Rng::new(seed ^ 0x6669_6C6C);
     let first = rng.below(4) as u8;
     let order: Vec<u8> = (0..4).map(|i| (first + i) % 4).collect();
     let mut out = Vec::new();
@@ -94,7 +130,7 @@ pub fn fill(seed: u64) -> Records {
     for guest in &order {
         switch(&mut out, *guest);
         for pa in (1..16).take(left) {
-            pin(&mut out, pa, pa % 5 == 0);
+            pin(&mut out, pa, is_table(pa));
             left -= 1;
         }
         use_page(&mut out, 1 + rng.below(3) as u8, rng.draw() as u32);
@@ -107,6 +143,11 @@ pub fn fill(seed: u64) -> Records {
     out
 }
 
+/// What `fill` pins at an address.
+fn is_table(pa: u8) -> bool {
+    matches!(pa, 5 | 10 | 15)
+}
+
 /// Leaves a value in the page, and no entry.
 fn use_page(out: &mut Records, pa: u8, value: u32) {
     new(out, 8, pa);
@@ -115,15 +156,15 @@ fn use_page(out: &mut Records, pa: u8, value: u32) {
     del(out, 8);
 }
 
-/// Of the addresses that every guest has, data or table by their number.
+/// One of the addresses that every guest has.
 fn give_and_take(out: &mut Records, rng: &mut Rng) {
     let pa = 1 + rng.below(11) as u8;
-    if pa % 5 != 0 {
+    if !is_table(pa) {
         use_page(out, pa, rng.draw() as u32);
     }
     unpin(out, pa);
-    pin(out, pa, pa % 5 == 0);
-    if pa % 5 != 0 {
+    pin(out, pa, is_table(pa));
+    if !is_table(pa) {
         new(out, 0, pa);
         read(out, 0);
         del(out, 0);

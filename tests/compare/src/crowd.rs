@@ -10,7 +10,7 @@ const DATA: [u8; 4] = [1, 2, 3, 4];
 const TABLES: [u8; 3] = [0, 5, 6];
 
 pub fn records(seed: u64, count: usize) -> Vec<[u8; 8]> {
-    let mut driver = Driver::new(seed ^ 0x63_726F_7764, count);
+    let mut driver = Driver::new(seed ^ 0x0063_726F_7764, count);
     driver.misses = [0, 8, 30][seed as usize % 3];
     let guests = 1 + seed as usize % 4;
     while !driver.is_full() {

@@ -1,4 +1,5 @@
-//! What happened inside the runs, seen in the second program's states: a journal that meets no write-back compares little.
+//! What happened inside the runs, seen in the second program's states: runs that
+//! meet no write-back compare little.
 
 use second::{decode, fresh, step, Action, Mach, State, HEADER, STEALTH};
 

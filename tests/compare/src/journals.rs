@@ -17,7 +17,7 @@ pub const PROFILES: [(&str, u64); 9] = [
     ("near", 200),
     ("noise", 60),
     ("crowd", 90),
-    ("blind", 200),
+    ("blind", 120),
     ("fill", 20),
     ("lengths", LENGTHS),
     ("headers", 64),
@@ -43,7 +43,7 @@ pub fn journal(profile: &str, seed: u64) -> Vec<u8> {
         "near" => with_header(&gen::near::records(seed, turn(&[600, 900, 2400, 60])).concat()),
         "noise" => with_header(&gen::noise::bytes(seed, turn(&[1200, 400, 40]))),
         "crowd" => with_header(&crowd::records(seed, turn(&[2000, 1200, 300, 4096, 800])).concat()),
-        "blind" => with_header(&blind::scripts(seed, turn(&[60, 150, 400])).concat()),
+        "blind" => with_header(&blind::scripts(seed, turn(&[300, 1000, 500])).concat()),
         "fill" => with_header(&blind::fill(seed).concat()),
         "lengths" => of_length(seed),
         "headers" => wrong_header(seed),
@@ -102,12 +102,12 @@ fn wrong_header(seed: u64) -> Vec<u8> {
 
 /// Bytes drawn at random, half of the time after a header.
 fn garbage(seed: u64) -> Vec<u8> {
-    let mut rng = Rng::new(seed ^ 0x67_6172_6261_6765);
-    let length = if seed % 10 == 0 { rng.below(50_000) } else { rng.below(300) };
+    let mut rng = Rng::new(seed ^ 0x0067_6172_6261_6765);
+    let most = if seed % 10 < 1 { 50_000 } else { 300 };
+    let length = rng.below(most);
     let body: Vec<u8> = (0..length).map(|_| rng.byte()).collect();
-    if seed % 2 == 0 {
-        with_header(&body)
-    } else {
-        body
+    match seed % 2 {
+        0 => with_header(&body),
+        _ => body,
     }
 }

@@ -1,4 +1,5 @@
-//! The proved host against the second program: `compare PROBE [RPJ]`, `compare self-test PROBE [RPJ]`, `compare spoiled PROBE`, `compare journal PROFILE SEED`.
+//! The proved host against the second program: everything; the comparison's own test;
+//! a run with one byte of ours spoiled, which must fail; a journal by profile and seed.
 
 mod blind;
 mod crowd;
@@ -93,8 +94,12 @@ fn everything(probe: &Path, rpj: Option<&Path>) -> Result<(), String> {
         return Err(missing.join("\n"));
     }
     let Tally { journals, records, states, valid, .. } = tally;
-    let seconds = start.elapsed().as_secs();
-    println!("{journals} journals with {records} records, {states} states ({valid} valid), {printed} journals printed by rpj: no difference, {seconds} s");
+    println!(
+        "no difference: {journals} journals with {records} records, {states} states ({} not \
+         valid), {printed} outputs of rpj, {} s",
+        states - valid,
+        start.elapsed().as_secs()
+    );
     Ok(())
 }
 
@@ -109,7 +114,8 @@ fn too_few(tally: &Tally, printed: Option<usize>) -> Vec<String> {
     short.map(|(what, count, least)| format!("{count} {what}, not {least}")).collect()
 }
 
-/// All tasks in one process of `probe`, each result against the second program's. One result may have its last byte spoiled first.
+/// All tasks in one process of `probe`, each result against the second program's.
+/// One result may have its last byte spoiled first.
 fn same(
     probe: &Path,
     items: &[Item],

@@ -89,7 +89,7 @@ pub fn walks(journals: &[Journal], profiles: &[(&str, u64)]) -> Vec<Item> {
 pub fn damaged(seeds: u64, each: usize) -> Vec<Item> {
     let mut items = Vec::new();
     for seed in 0..seeds {
-        let mut rng = Rng::new(seed ^ 0x6A75_6467_65);
+        let mut rng = Rng::new(seed ^ 0x006A_7564_6765);
         for state in damage::states(seed, each) {
             items.push(judged("damaged", seed, state.to_bytes(), &mut rng));
         }
