@@ -179,7 +179,8 @@ fn differs(probe: &Path, item: Item) -> Option<String> {
 fn print_all<'a>(rpj: &Path, journals: impl Iterator<Item = &'a Journal>) -> Result<usize, String> {
     let mut printed = 0;
     for Journal { profile, seed, bytes } in journals {
-        let ours = programs::rpj(rpj, bytes)?;
+        let piece = if seed % 8 < 2 { 1000 } else { bytes.len().max(1) };
+        let ours = programs::rpj(rpj, bytes, piece)?;
         let second = second::program_output(bytes);
         if let Some(text) = difference::of_texts(&ours, second.as_bytes()) {
             return Err(format!("difference: rpj, profile {profile}, seed {seed}: {text}"));

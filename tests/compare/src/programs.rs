@@ -3,8 +3,12 @@
 use std::io::{BufReader, BufWriter, Read, Write};
 use std::path::Path;
 use std::process::{Command, Stdio};
+use std::time::Duration;
 
 use crate::task::Item;
+
+/// Before each piece of input, so that a read can come back with less than it asked for.
+const PAUSE: Duration = Duration::from_micros(50);
 
 /// Does all tasks in one process of `probe`; each result is looked at as it comes.
 pub fn probe(
@@ -51,15 +55,20 @@ fn at_end(mut output: impl Read) -> Result<(), String> {
     }
 }
 
-/// What `rpj` prints for a journal.
-pub fn rpj(program: &Path, journal: &[u8]) -> Result<Vec<u8>, String> {
+/// What `rpj` prints for a journal, which comes in pieces of so many bytes.
+pub fn rpj(program: &Path, journal: &[u8], piece: usize) -> Result<Vec<u8>, String> {
     let mut child = started(program)?;
     let mut input = child.stdin.take().ok_or("no standard input")?;
     let mut output = child.stdout.take().ok_or("no standard output")?;
     let mut text = Vec::new();
     std::thread::scope(|scope| {
         // A program may stop reading once a journal is too long.
-        scope.spawn(move || input.write_all(journal));
+        scope.spawn(move || {
+            let _ = journal.chunks(piece).try_for_each(|part| {
+                std::thread::sleep(PAUSE);
+                input.write_all(part)
+            });
+        });
         output.read_to_end(&mut text).map_err(|e| e.to_string())
     })?;
     let status = child.wait().map_err(|e| e.to_string())?;

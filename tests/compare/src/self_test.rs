@@ -51,7 +51,7 @@ fn texts(rpj: &Path) -> Result<usize, String> {
     let journal = journals::journal("lengths", 37);
     let second = second::program_output(&journal);
     let second = second.as_bytes();
-    let ours = programs::rpj(rpj, &journal)?;
+    let ours = programs::rpj(rpj, &journal, journal.len())?;
     if let Some(text) = difference::of_texts(&ours, second) {
         return Err(format!("rpj differs as it is: {text}"));
     }
