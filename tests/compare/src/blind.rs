@@ -30,6 +30,10 @@ fn del(out: &mut Records, va: u8) {
     serve(out, 2, va, 0);
 }
 
+fn lswitch(out: &mut Records, pa: u8) {
+    serve(out, 3, pa, 0);
+}
+
 fn pin(out: &mut Records, pa: u8, table: bool) {
     serve(out, 4, pa, table as u8);
 }
@@ -95,7 +99,7 @@ fn careful(out: &mut Records, rng: &mut Rng, guests: usize) {
             del(out, 7);
             new(out, 7, of(rng, &STEALTHY));
         }
-        6 | 7 => serve(out, 3, of(rng, &TABLES), 0),
+        6 | 7 => lswitch(out, of(rng, &TABLES)),
         8 => {
             pin(out, 9, false);
             use_page(out, 9, rng.draw() as u32);
@@ -113,7 +117,7 @@ fn risky(out: &mut Records, rng: &mut Rng) {
         0 => new(out, va, pa),
         1 => unpin(out, pa),
         2 => pin(out, pa, rng.percent(50)),
-        3 => serve(out, 3, pa, 0),
+        3 => lswitch(out, pa),
         4 => serve(out, 1 + rng.below(5) as u8, va, pa),
         _ => out.push(record(rng.below(15) as u8, va, pa, rng.below(6) as u8)),
     }
@@ -171,15 +175,28 @@ fn give_and_take(out: &mut Records, rng: &mut Rng) {
     }
 }
 
-/// The last guest asks for a 57th page and is stuck; after one unpin of another a pin passes.
+/// The last guest asks for a 57th page and is stuck; after one unpin of another a pin
+/// passes. Then each gets stuck: at an address that is taken, or by its current table.
 fn too_many(out: &mut Records, order: &[u8], rng: &mut Rng) {
     switch(out, order[3]);
     pin(out, 15, rng.percent(50));
-    for guest in &order[..3] {
+    for (i, guest) in order[..3].iter().enumerate() {
         out.extend([record(8, *guest, 0, 0), CHMOD]);
         give_and_take(out, rng);
         unpin(out, 11);
         pin(out, 11, false);
-        pin(out, 11, true);
+        match i {
+            0 => pin(out, 11, true),
+            1 => unpin(out, 0),
+            _ => move_house(out),
+        }
     }
+}
+
+/// Another table in force: the first one can be given back, the other one not.
+fn move_house(out: &mut Records) {
+    lswitch(out, 5);
+    unpin(out, 0);
+    pin(out, 0, false);
+    unpin(out, 5);
 }
