@@ -1,0 +1,194 @@
+// Test aid: does tasks from standard input by the proved code, and writes what came of each. docs/ARCHITECTURE.md, "The differential run", has the framing.
+use host::Host;
+use host::SIZE;
+use journal::Verdict;
+use steps::Answer;
+
+const IN: i32 = 0;
+
+const OUT: i32 = 1;
+
+// A task's first bytes: its kind, a zero, how many bytes its journal or record has, how many its answer buffer has.
+const HEAD: usize = 6;
+
+const FRESH: u8 = 0;
+
+const GIVEN: u8 = 1;
+
+const JUDGE: u8 = 2;
+
+const MOST: usize = 65536;
+
+type Buffer = [u8; MOST];
+
+// ---- bytes in and out: of a slice its first n bytes, or all if there are fewer
+
+// 16 bits, low byte first
+fn number(a: u8, b: u8) -> isize {
+    let n = a as usize + 256 * b as usize;
+    n as isize
+}
+
+fn receive(s: &mut [u8], n: isize) {
+    let k = io::count(n, s);
+    io::read_full(IN, &mut s[..k]);
+}
+
+fn send(s: &[u8], n: isize) {
+    let k = io::count(n, s);
+    io::write_all(OUT, &s[..k]);
+}
+
+fn receive_host(h: &mut Host) {
+    io::read_full(IN, h);
+}
+
+fn send_host(h: &Host) {
+    io::write_all(OUT, h);
+}
+
+fn receive_buffer(b: &mut Buffer, n: isize) {
+    receive(b, n);
+}
+
+fn send_buffer(b: &Buffer, n: isize) {
+    send(b, n);
+}
+
+fn send_number(n: usize) {
+    io::write_all(OUT, &[(n % 256) as u8, (n / 256 % 256) as u8]);
+}
+
+// ---- results
+
+// The refusal's number, 0 for none, and the report.
+fn send_verdict(v: Verdict) {
+    match v {
+        Verdict::Done(r) => {
+            io::write_all(OUT, &[0]);
+            send_number(r.taken);
+            send_number(r.accepted);
+            send_number(r.refused);
+            send_number(r.left_over);
+        }
+        Verdict::Refused(n) => {
+            io::write_all(OUT, &[n, 0, 0, 0, 0, 0, 0, 0, 0]);
+        }
+    }
+}
+
+// Number and value.
+fn send_answer(a: Answer) {
+    match a {
+        Answer::Done(v) => {
+            io::write_all(OUT, &[0]);
+            send_number((v % 65536) as usize);
+            send_number((v / 65536) as usize);
+        }
+        Answer::Refused(n) => {
+            io::write_all(OUT, &[n, 0, 0, 0, 0]);
+        }
+    }
+}
+
+fn bit(b: bool) -> u8 {
+    if b { 1 } else { 0 }
+}
+
+// The ten rules, then validity.
+fn send_rules(h: &Host) {
+    let first = [
+        bit(rules::rule1(h)),
+        bit(rules::rule2(h)),
+        bit(rules::rule3(h)),
+        bit(rules::rule4(h)),
+        bit(rules::rule5(h)),
+    ];
+    io::write_all(OUT, &first);
+    let rest = [
+        bit(rules::rule6(h)),
+        bit(rules::rule7(h)),
+        bit(rules::rule8(h)),
+        bit(rules::rule9(h)),
+        bit(rules::rule10(h)),
+        bit(rules::valid(h)),
+    ];
+    io::write_all(OUT, &rest);
+}
+
+// ---- tasks
+
+fn run_parts(h: &mut Host, j: &[u8], length: isize, out: &mut [u8], room: isize) -> Verdict {
+    let n = io::count(length, j);
+    let m = io::count(room, out);
+    journal::run(h, &j[..n], &mut out[..m])
+}
+
+fn run_buffers(h: &mut Host, j: &Buffer, length: isize, out: &mut Buffer, room: isize) -> Verdict {
+    run_parts(h, j, length, out, room)
+}
+
+fn step_part(h: &mut Host, record: &[u8], length: isize) -> Answer {
+    let n = io::count(length, record);
+    steps::step(h, &record[..n])
+}
+
+fn step_buffer(h: &mut Host, record: &Buffer, length: isize) -> Answer {
+    step_part(h, record, length)
+}
+
+// A machine unless it is the fresh one, a journal, an answer buffer with what it holds; then verdict, buffer and machine.
+fn run_journal(is_fresh: bool, length: isize, room: isize) {
+    let mut h: Host = [0; SIZE];
+    let mut j: Buffer = [0; MOST];
+    let mut out: Buffer = [0; MOST];
+    if is_fresh {
+        host::fresh(&mut h);
+    } else {
+        receive_host(&mut h);
+    }
+    receive_buffer(&mut j, length);
+    receive_buffer(&mut out, room);
+    let v = run_buffers(&mut h, &j, length, &mut out, room);
+    send_verdict(v);
+    send_buffer(&out, room);
+    send_host(&h);
+}
+
+// A machine and a record; then the rules, the step's answer and the machine after it.
+fn judge(length: isize) {
+    let mut h: Host = [0; SIZE];
+    let mut record: Buffer = [0; MOST];
+    receive_host(&mut h);
+    receive_buffer(&mut record, length);
+    send_rules(&h);
+    let a = step_buffer(&mut h, &record, length);
+    send_answer(a);
+    send_host(&h);
+}
+
+// False at the end of the input.
+fn task() -> bool {
+    let mut head = [0u8; HEAD];
+    if io::read_full(IN, &mut head) < HEAD {
+        return false;
+    }
+    let length = number(head[2], head[3]);
+    let room = number(head[4], head[5]);
+    let kind = head[0];
+    match kind {
+        FRESH => run_journal(true, length, room),
+        GIVEN => run_journal(false, length, room),
+        JUDGE => judge(length),
+        _ => return false,
+    }
+    true
+}
+
+// A proved loop has to end, and nothing says that the input does.
+fn main() {
+    let mut turns = u64::MAX;
+    while turns > 0 && task() {
+        turns -= 1;
+    }
+}

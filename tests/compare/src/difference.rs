@@ -1,0 +1,127 @@
+//! The first difference of two results, in words.
+
+use second::bytes::OFFSETS;
+use second::hex::to_hex;
+use second::STATE_BYTES;
+
+use crate::task::{Task, ANSWER, RULES, VERDICT};
+
+/// The fields of docs/STATE.md, in order.
+const FIELDS: [&str; 19] = [
+    "owner",
+    "kind",
+    "cacheable",
+    "entry",
+    "physical",
+    "free",
+    "current",
+    "call",
+    "callA",
+    "callB",
+    "active",
+    "mode",
+    "lineAddress",
+    "linePage",
+    "history",
+    "slotAddress",
+    "slotPage",
+    "memory",
+    "line",
+];
+
+/// None where both are the same.
+pub fn of_results(task: &Task, ours: &[u8], second: &[u8]) -> Option<String> {
+    if ours == second {
+        return None;
+    }
+    if ours.len() != second.len() {
+        return Some(both("bytes of the result", ours.len(), second.len()));
+    }
+    Some(match task {
+        Task::Run { journal, .. } => of_runs(journal, ours, second),
+        Task::Judge { machine, record } => {
+            let start = of_judgements(ours, second);
+            format!("{start}\n  record {}\n  machine {}", to_hex(record), to_hex(machine))
+        }
+    })
+}
+
+fn both(what: &str, ours: impl std::fmt::Display, second: impl std::fmt::Display) -> String {
+    format!("{what}\n  ours:   {ours}\n  second: {second}")
+}
+
+fn of_runs(journal: &[u8], ours: &[u8], second: &[u8]) -> String {
+    if ours[..VERDICT] != second[..VERDICT] {
+        return both("verdict and report", report(ours), report(second));
+    }
+    let end = ours.len() - STATE_BYTES;
+    let answers = (VERDICT..end)
+        .step_by(8)
+        .find(|at| ours[*at..end.min(at + 8)] != second[*at..end.min(at + 8)]);
+    let Some(at) = answers else { return of_states(&ours[end..], &second[end..]) };
+    let n = (at - VERDICT) / 8;
+    let (ours, second) = (&ours[at..end.min(at + 8)], &second[at..end.min(at + 8)]);
+    match journal.get(8 + 8 * n..16 + 8 * n) {
+        Some(record) if ours.len() == 8 => {
+            let what = format!("record {}: {}", n + 1, to_hex(record));
+            both(&what, line(n, ours), line(n, second))
+        }
+        _ => both(&format!("answer buffer from byte {}", 8 * n), to_hex(ours), to_hex(second)),
+    }
+}
+
+fn report(result: &[u8]) -> String {
+    let count = |i: usize| u16::from_le_bytes([result[i], result[i + 1]]);
+    format!(
+        "number {}, taken {}, accepted {}, refused {}, left over {}",
+        result[0],
+        count(1),
+        count(3),
+        count(5),
+        count(7)
+    )
+}
+
+/// As the program prints it, and its bytes.
+fn line(n: usize, answer: &[u8]) -> String {
+    let value = u32::from_le_bytes([answer[4], answer[5], answer[6], answer[7]]);
+    format!("{} {} {value} ({})", n + 1, answer[0], to_hex(answer))
+}
+
+fn of_judgements(ours: &[u8], second: &[u8]) -> String {
+    let head = RULES + ANSWER;
+    if ours[..RULES] != second[..RULES] {
+        return both(
+            "rules 1 to 10 and validity",
+            to_hex(&ours[..RULES]),
+            to_hex(&second[..RULES]),
+        );
+    }
+    if ours[..head] != second[..head] {
+        return both("answer and value", to_hex(&ours[RULES..head]), to_hex(&second[RULES..head]));
+    }
+    of_states(&ours[head..], &second[head..])
+}
+
+fn of_states(ours: &[u8], second: &[u8]) -> String {
+    let Some(at) = (0..STATE_BYTES).find(|i| ours[*i] != second[*i]) else {
+        return "none".into();
+    };
+    let field = OFFSETS.iter().rposition(|start| *start <= at).unwrap_or(0);
+    let what = format!("state, byte {at}: {} at {}", FIELDS[field], at - OFFSETS[field]);
+    both(&what, ours[at], second[at])
+}
+
+/// The first line that is not the same, counted from 1; None where all are.
+pub fn of_texts(ours: &[u8], second: &[u8]) -> Option<String> {
+    if ours == second {
+        return None;
+    }
+    let lines = |text: &[u8]| -> Vec<String> {
+        text.split(|byte| *byte == b'\n').map(|line| String::from_utf8_lossy(line).into()).collect()
+    };
+    let (ours, second) = (lines(ours), lines(second));
+    let same = ours.iter().zip(&second).take_while(|(a, b)| a == b).count();
+    let shown = |lines: &[String]| lines.get(same).map_or("(no line)".into(), |l| format!("{l:?}"));
+    Some(both(&format!("line {}", same + 1), shown(&ours), shown(&second)))
+}

@@ -1,0 +1,131 @@
+//! What happened inside the runs, seen in the second program's states: runs that
+//! meet no write-back compare little.
+
+use second::{decode, fresh, step, Action, Mach, State, HEADER, STEALTH};
+
+use crate::journals::Journal;
+
+const NAMES: [&str; 17] = [
+    "dirty line taken out by a read or write",
+    "dirty line taken out by new",
+    "dirty line taken out by del",
+    "dirty stealth line saved by switch",
+    "dirty stealth line saved by lswitch",
+    "dirty stealth line saved and loaded again",
+    "stealth line loaded by new_sm, value not 0",
+    "page shared and its mark lost",
+    "page shared with a dirty line",
+    "read or write of a page not cacheable",
+    "two lines of one address in a set",
+    "TLB entry dropped by new or del",
+    "new in place of another entry",
+    "del of an address not mapped",
+    "a table other than the first in force",
+    "last free page taken",
+    "page with a value given back",
+];
+
+#[derive(Default)]
+pub struct Events([usize; NAMES.len()]);
+
+struct Passage<'a> {
+    action: Action,
+    before: &'a State,
+    after: &'a State,
+}
+
+impl Events {
+    pub fn watch(&mut self, journals: &[Journal]) {
+        let runs = ["deep", "near", "crowd", "blind", "fill"];
+        for journal in journals.iter().filter(|j| runs.contains(&j.profile)) {
+            let mut state = fresh();
+            for record in journal.bytes[HEADER.len()..].chunks_exact(8) {
+                let before = state.clone();
+                if let (0, Some(action)) = (step(&mut state, record).0, decode(record)) {
+                    self.note(&Passage { action, before: &before, after: &state });
+                }
+            }
+        }
+    }
+
+    fn note(&mut self, p: &Passage) {
+        for (count, happened) in self.0.iter_mut().zip(p.happened()) {
+            *count += happened as usize;
+        }
+    }
+
+    pub fn print(&self) {
+        for (name, count) in NAMES.iter().zip(self.0) {
+            println!("{count:>8} {name}");
+        }
+    }
+
+    pub fn missing(&self) -> Vec<String> {
+        let none = NAMES.iter().zip(self.0).filter(|(_, count)| *count == 0);
+        none.map(|(name, _)| format!("never: {name}")).collect()
+    }
+}
+
+impl Passage<'_> {
+    fn happened(&self) -> [bool; NAMES.len()] {
+        let a = self.action;
+        let access = matches!(a, Action::Read { .. } | Action::Write { .. });
+        let (new, del) = (matches!(a, Action::New { .. }), matches!(a, Action::Del { .. }));
+        let (saved, written) = (self.written_back(Some(7)), self.written_back(None));
+        let marks = |s: &State| s.pages.iter().filter(|page| page.mark == 0).count();
+        let lost = new && marks(self.after) > marks(self.before);
+        let entry = self.entry();
+        [
+            access && written,
+            new && written,
+            del && written,
+            matches!(a, Action::Switch { .. }) && saved,
+            matches!(a, Action::Lswitch { .. }) && saved,
+            saved && self.before.cache[7].ways[0].page == self.after.cache[7].ways[0].page,
+            matches!(a, Action::NewSm { .. }) && self.after.cache[7].ways[0].value != 0,
+            lost,
+            lost && written,
+            access && entry.is_some_and(|page| self.before.page(page).mark == 0),
+            self.same_address(),
+            (new || del) && self.before.tlb != self.after.tlb,
+            new && entry.is_some(),
+            del && entry.is_none(),
+            self.after.guests[self.after.active as usize].current != 0,
+            self.before.free != 0 && self.after.free == 0,
+            self.given_back(),
+        ]
+    }
+
+    /// A line is gone whose value memory had not, and memory has it now.
+    fn written_back(&self, of_set: Option<usize>) -> bool {
+        (0..8).filter(|set| of_set.is_none_or(|only| only == *set)).any(|set| {
+            let lines = self.before.cache[set].ways.iter();
+            let dirty = lines.filter_map(|line| Some((line.page.page()?, line.value)));
+            dirty.into_iter().any(|(page, value)| {
+                self.before.page(page).memory != value && self.after.page(page).memory == value
+            })
+        })
+    }
+
+    /// The page at the action's address before it.
+    fn entry(&self) -> Option<Mach> {
+        let va = match self.action {
+            Action::Read { va, .. } | Action::Write { va, .. } => va,
+            Action::New { va, .. } | Action::Del { va } => va,
+            _ => STEALTH,
+        };
+        self.before.maps(self.before.table_in_force()?, va)
+    }
+
+    fn same_address(&self) -> bool {
+        self.after.cache.iter().any(|set| {
+            let [one, other] = set.ways;
+            !one.page.is_empty() && !other.page.is_empty() && one.address == other.address
+        })
+    }
+
+    fn given_back(&self) -> bool {
+        let freed = self.after.free & !self.before.free;
+        Mach::all().any(|page| freed & page.bit() != 0 && self.before.page(page).memory != 0)
+    }
+}

@@ -1,0 +1,191 @@
+//! The proved host against the second program: everything; the comparison's own test;
+//! a run with one byte of ours spoiled, which must fail; a journal by profile and seed.
+
+mod blind;
+mod crowd;
+mod difference;
+mod events;
+mod journals;
+mod plan;
+mod programs;
+mod self_test;
+mod tally;
+mod task;
+
+use std::io::Write;
+use std::path::Path;
+use std::process::ExitCode;
+use std::time::Instant;
+
+use second::hex::to_hex;
+
+use events::Events;
+use journals::Journal;
+use tally::Tally;
+use task::{Item, Task};
+
+const USAGE: &str =
+    "usage: compare PROBE [RPJ] | self-test PROBE [RPJ] | spoiled PROBE | journal PROFILE SEED";
+
+fn main() -> ExitCode {
+    let words: Vec<String> = std::env::args().skip(1).collect();
+    let words: Vec<&str> = words.iter().map(String::as_str).collect();
+    let outcome = match words[..] {
+        ["journal", profile, seed] => show(profile, seed),
+        ["self-test", probe] => self_test::run(Path::new(probe), None),
+        ["self-test", probe, rpj] => self_test::run(Path::new(probe), Some(Path::new(rpj))),
+        ["spoiled", probe] => self_test::spoiled(Path::new(probe)),
+        [probe] => everything(Path::new(probe), None),
+        [probe, rpj] => everything(Path::new(probe), Some(Path::new(rpj))),
+        _ => Err(USAGE.into()),
+    };
+    match outcome {
+        Ok(()) => ExitCode::SUCCESS,
+        Err(text) => {
+            println!("{text}");
+            ExitCode::FAILURE
+        }
+    }
+}
+
+fn show(profile: &str, seed: &str) -> Result<(), String> {
+    let seed = seed.parse().map_err(|_| USAGE)?;
+    std::io::stdout().write_all(&journals::journal(profile, seed)).map_err(|e| e.to_string())
+}
+
+/// Walked record by record.
+const WALKED: [(&str, u64); 8] = [
+    ("deep", 2),
+    ("deep", 6),
+    ("near", 2),
+    ("near", 6),
+    ("crowd", 1),
+    ("crowd", 4),
+    ("fill", 3),
+    ("noise", 1),
+];
+
+fn everything(probe: &Path, rpj: Option<&Path>) -> Result<(), String> {
+    let start = Instant::now();
+    let mut tally = Tally::default();
+    let journals = journals::all();
+    let printed = match rpj {
+        Some(rpj) => print_all(rpj, journals.iter().chain(&journals::longer()))?,
+        None => 0,
+    };
+    let parts = [
+        plan::runs(&journals),
+        plan::rooms(),
+        plan::given(120),
+        plan::walks(&journals, &WALKED),
+        plan::damaged(40, 250),
+        plan::struck(20, 250),
+    ];
+    for items in &parts {
+        same(probe, items, &mut tally, None)?;
+    }
+    let mut events = Events::default();
+    events.watch(&journals);
+    tally.print();
+    events.print();
+    let missing =
+        [tally.missing(), events.missing(), too_few(&tally, rpj.map(|_| printed))].concat();
+    if !missing.is_empty() {
+        return Err(missing.join("\n"));
+    }
+    let Tally { journals, records, states, valid, .. } = tally;
+    println!(
+        "no difference: {journals} journals with {records} records, {states} states ({} not \
+         valid), {printed} outputs of rpj, {} s",
+        states - valid,
+        start.elapsed().as_secs()
+    );
+    Ok(())
+}
+
+fn too_few(tally: &Tally, printed: Option<usize>) -> Vec<String> {
+    let least = [
+        ("journals", tally.journals, 300),
+        ("records", tally.records, 300_000),
+        ("states", tally.states - tally.valid, 5_000),
+        ("journals printed", printed.unwrap_or(100), 100),
+    ];
+    let short = least.iter().filter(|(_, count, least)| count < least);
+    short.map(|(what, count, least)| format!("{count} {what}, not {least}")).collect()
+}
+
+/// All tasks in one process of `probe`, each result against the second program's.
+/// One result may have its last byte spoiled first.
+fn same(
+    probe: &Path,
+    items: &[Item],
+    tally: &mut Tally,
+    spoiled: Option<usize>,
+) -> Result<(), String> {
+    programs::probe(probe, items, |i, mut ours| {
+        if let (true, Some(last)) = (spoiled == Some(i), ours.last_mut()) {
+            *last ^= 1;
+        }
+        let Item { profile, seed, task } = &items[i];
+        tally.note(task, &ours);
+        match difference::of_results(task, &ours, &task.expected()) {
+            None => Ok(()),
+            Some(text) => {
+                let first = first_record(probe, task).unwrap_or_default();
+                Err(format!("difference: profile {profile}, seed {seed}, task {i}: {text}{first}"))
+            }
+        }
+    })
+}
+
+/// A record after which results differ, with none before it in the journal's beginning up to it, in hex.
+fn first_record(probe: &Path, task: &Task) -> Option<String> {
+    let Task::Run { machine, journal, buffer } = task else { return None };
+    let differs = |n: usize| {
+        let journal = journal[..journal.len().min(8 + 8 * n)].to_vec();
+        let shown = to_hex(&journal);
+        let task = Task::Run { machine: machine.clone(), journal, buffer: buffer.clone() };
+        let text = differs(probe, Item { profile: "beginning", seed: 0, task })?;
+        Some(format!("\nafter {n} records: {text}\n  journal {shown}"))
+    };
+    // the beginning with `same` records has no difference, the one with `other` has
+    let (mut same, mut other) = (0, journal.len().saturating_sub(8) / 8);
+    if let Some(text) = differs(same) {
+        return Some(text);
+    }
+    while other - same > 1 {
+        let middle = (same + other) / 2;
+        match differs(middle) {
+            None => same = middle,
+            Some(_) => other = middle,
+        }
+    }
+    differs(other)
+}
+
+/// What differs in one task by itself.
+fn differs(probe: &Path, item: Item) -> Option<String> {
+    let mut found = None;
+    let items = [item];
+    let _ = programs::probe(probe, &items, |_, ours| {
+        let task = &items[0].task;
+        found = difference::of_results(task, &ours, &task.expected());
+        Ok(())
+    });
+    found
+}
+
+/// Each journal in a process of `rpj`; gives how many there were.
+fn print_all<'a>(rpj: &Path, journals: impl Iterator<Item = &'a Journal>) -> Result<usize, String> {
+    let mut printed = 0;
+    for Journal { profile, seed, bytes } in journals {
+        let piece = if seed % 8 < 2 { 1000 } else { bytes.len().max(1) };
+        let ours = programs::rpj(rpj, bytes, piece)?;
+        let second = second::program_output(bytes);
+        if let Some(text) = difference::of_texts(&ours, second.as_bytes()) {
+            return Err(format!("difference: rpj, profile {profile}, seed {seed}: {text}"));
+        }
+        printed += 1;
+    }
+    Ok(printed)
+}

@@ -1,0 +1,92 @@
+//! Tasks of the program `probe`: their bytes, and what the second program makes of them in the same bytes.
+
+use second::{fresh, rules, run_journal, step, State, STATE_BYTES};
+
+pub enum Task {
+    /// A journal with an answer buffer, on a machine or on the fresh one.
+    Run { machine: Option<Vec<u8>>, journal: Vec<u8>, buffer: Vec<u8> },
+    /// The rules on a machine, and one step.
+    Judge { machine: Vec<u8>, record: Vec<u8> },
+}
+
+/// A task, and what made it.
+pub struct Item {
+    pub profile: &'static str,
+    pub seed: u64,
+    pub task: Task,
+}
+
+/// Number and report, before the answers.
+pub const VERDICT: usize = 9;
+/// Ten rules and validity.
+pub const RULES: usize = 11;
+/// Number and value of a step.
+pub const ANSWER: usize = 5;
+
+impl Task {
+    pub fn bytes(&self) -> Vec<u8> {
+        match self {
+            Task::Run { machine: None, journal, buffer } => {
+                [&head(0, journal, buffer)[..], journal, buffer].concat()
+            }
+            Task::Run { machine: Some(machine), journal, buffer } => {
+                [&head(1, journal, buffer)[..], machine, journal, buffer].concat()
+            }
+            Task::Judge { machine, record } => {
+                [&head(2, record, &[])[..], machine, record].concat()
+            }
+        }
+    }
+
+    pub fn result_size(&self) -> usize {
+        STATE_BYTES
+            + match self {
+                Task::Run { buffer, .. } => VERDICT + buffer.len(),
+                Task::Judge { .. } => RULES + ANSWER,
+            }
+    }
+
+    /// What the second program says.
+    pub fn expected(&self) -> Vec<u8> {
+        match self {
+            Task::Run { machine, journal, buffer } => run(machine.as_deref(), journal, buffer),
+            Task::Judge { machine, record } => judge(machine, record),
+        }
+    }
+}
+
+fn head(kind: u8, input: &[u8], buffer: &[u8]) -> [u8; 6] {
+    let [a, b] = sixteen(input.len());
+    let [c, d] = sixteen(buffer.len());
+    [kind, 0, a, b, c, d]
+}
+
+fn sixteen(number: usize) -> [u8; 2] {
+    u16::try_from(number).expect("at most 65,535 bytes").to_le_bytes()
+}
+
+fn run(machine: Option<&[u8]>, journal: &[u8], buffer: &[u8]) -> Vec<u8> {
+    let mut state = machine.map_or_else(fresh, State::from_bytes);
+    let mut answers = buffer.to_vec();
+    let (number, report) = match run_journal(&mut state, journal, &mut answers) {
+        Ok(report) => (0, report),
+        Err(number) => (number, second::Report::default()),
+    };
+    let mut out = vec![number];
+    for count in [report.taken, report.accepted, report.refused, report.left_over] {
+        out.extend(sixteen(count));
+    }
+    [out, answers, state.to_bytes()].concat()
+}
+
+fn judge(machine: &[u8], record: &[u8]) -> Vec<u8> {
+    let mut state = State::from_bytes(machine);
+    let holds = rules(&state);
+    let mut out: Vec<u8> = holds.iter().map(|holds| *holds as u8).collect();
+    out.push(second::valid(&state) as u8);
+    let (number, value) = step(&mut state, record);
+    out.push(number);
+    out.extend(value.to_le_bytes());
+    out.extend(state.to_bytes());
+    out
+}
