@@ -74,7 +74,7 @@ module _ (j : List ℕ) (start : ℕ) (b : List ℕ) where
 
 -- ---- one turn
 
-from-to : (x : Answer) → answerFrom (answerTo x) ≡ x
+pub from-to : (x : Answer) → answerFrom (answerTo x) ≡ x
 from-to (done v) = refl
 from-to (refused n) = refl
 
