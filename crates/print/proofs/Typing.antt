@@ -26,6 +26,18 @@ unfolding typedAll
 typed-append p [] ys = refl
 typed-append p (x ∷ xs) ys = typed-append (typed p x) xs ys
 
+-- what is typed after what was typed
+pub typed-then : (p : Page) (xs ys : List ℕ) {q r : Page} → q ≡ typedAll p xs → r ≡ typedAll q ys → r ≡ typedAll p (xs ++ ys)
+typed-then p xs ys e f = f ∙ ap (λ (t : Page). typedAll t ys) e ∙ typed-append p xs ys
+
+pub typed-one : (p : Page) (x : ℕ) → typed p x ≡ typedAll p (x ∷ [])
+unfolding typedAll
+typed-one p x = refl
+
+pub typed-none : (p : Page) → p ≡ typedAll p []
+unfolding typedAll
+typed-none p = refl
+
 pub typed-length : (p : Page) (xs : List ℕ) → length (typedAll p xs .bytes) ≡ length (p .bytes)
 unfolding typedAll
 typed-length p [] = refl

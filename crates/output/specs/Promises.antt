@@ -1,0 +1,32 @@
+-- What the functions of this crate promise: the answers, and the text typed into the output from its start.
+-- Assumes nothing.
+use mathlib.Core.Path.{_≡_}
+use mathlib.Core.List.{List}
+use Prim.Native.Nat.{ℕ}
+use Rattle.model.specs.Fresh.{fresh}
+use Rattle.model.specs.Journal.{journal}
+use Rattle.model.specs.Journal.{ran, turnedAway}
+use Rattle.model.specs.Journal as model
+use Rattle.journal.specs.declared.Report.{Report}
+use Rattle.journal.specs.declared.Verdict.{Verdict}
+use Rattle.journal.specs.declared.Verdict.the-variants.{Done, Refused}
+use Rattle.print.specs.Text.{page, typedAll}
+use Rattle.output.specs.Output.{printed}
+
+-- code's reports and verdicts as the model's
+abbrev pub reportFrom : Report → model.Report
+reportFrom r = record { taken = r .taken; accepted = r .accepted; refused = r .refused; leftOver = r .«left_over» }
+
+abbrev pub verdictFrom : Verdict → model.Verdict
+verdictFrom (Done r) = ran (reportFrom r)
+verdictFrom (Refused n) = turnedAway n
+
+-- the records whose answers are printed
+abbrev pub takenIn : Verdict → ℕ
+takenIn (Done r) = r .taken
+takenIn (Refused n) = 0
+
+-- the journal j is run on the fresh machine, with the answer buffer b, and printed to d: c and e are the buffers after it, n the bytes printed
+pub record Prints (j b d : List ℕ) (n : ℕ) (c e : List ℕ) : Type 0 where
+  pub answers : c ≡ journal fresh j b .buffer
+  pub output : page e n ≡ typedAll (page d 0) (printed (journal fresh j b))
