@@ -22,6 +22,7 @@ use Rattle.steps.proofs.Storing.{length-pasted}
 use Rattle.journal.specs.declared.Verdict.{Verdict}
 use Rattle.journal.specs.Promises.{verdictTo, Runs}
 use Rattle.journal.proofs.Reports.{form-fits}
+use Rattle.print.proofs.Typing.{typed-inside}
 use Rattle.print.specs.Text.{page, typedAll}
 use Rattle.output.specs.Output.{linesOf, printed}
 use Rattle.output.specs.Promises.{verdictFrom, takenIn, Prints}
@@ -53,6 +54,10 @@ module _ (s : State) (j b : List ℕ) where
         let p : takenIn v ≡ takenIn (verdictTo (journal s j b .verdict)) = ap takenIn (w .verdict) in
         let q : length c ≡ length (journal s j b .buffer) = ap length (w .buffer) in
         omega (arith, room)
+
+-- what was printed lies in the buffer
+pub printed-inside : (j b d : List ℕ) {n : ℕ} {c e : List ℕ} → Prints j b d n c e → n ≤ length e
+printed-inside j b d {n} {c} {e} w = typed-inside d (printed (journal fresh j b)) e n (w .output)
 
 pub prints : (s : State) (j b d : List ℕ) {v : Verdict} {t : State} {c e : List ℕ} {n : ℕ} → s ≡ fresh → Runs s j b v t c
     → page e n ≡ typedAll (page d 0) (linesOf (verdictFrom v) c) → Prints j b d n c e

@@ -63,6 +63,15 @@ typed-within p (x ∷ xs) h =
     let w = typed-within (typed p x) xs k in
     omega arith
 
+-- from the start of a buffer, no more is typed than it holds
+pub typed-inside : (d xs e : List ℕ) (n : ℕ) → page e n ≡ typedAll (page d 0) xs → n ≤ length e
+typed-inside d xs e n q =
+    let w = typed-within (page d 0) xs (omega arith) in
+    let l = typed-length (page d 0) xs in
+    let p : n ≡ typedAll (page d 0) xs .place = ap (λ (t : Page). t .place) q in
+    let m : length e ≡ length (typedAll (page d 0) xs .bytes) = ap (λ (t : Page). length (t .bytes)) q in
+    omega arith
+
 -- the rest of the bytes from place i on
 pub typed-rest : (p : Page) (s : List ℕ) (i : ℕ) → i < length s → typedAll p (drop i s) ≡ typedAll (typed p (at s i)) (drop (i + 1) s)
 unfolding typedAll
