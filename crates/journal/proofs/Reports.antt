@@ -16,7 +16,8 @@ use Rattle.model.specs.Valid.{valid?}
 use Rattle.model.specs.Step.{Answer}
 use Rattle.model.specs.Run.{run}
 use Rattle.model.specs.Run as model
-use Rattle.model.specs.Journal.{taken, leftOver, wholeRecords, recordsOf, hasHeader, formRefusal, acceptedIn, refusedIn, pasted, Report, reportOf, ran, After, journalRefusal, played, reported, away, journal}
+use Rattle.model.specs.Journal.{taken, leftOver, wholeRecords, recordsOf, hasHeader, formRefusal, acceptedIn, refusedIn, pasted, Report, reportOf, ran, turnedAway, After, journalRefusal, played, reported, away, journal}
+use Rattle.model.specs.Journal as asked
 use Rattle.model.proofs.Journal.{either, accepted-and-refused}
 use Rattle.steps.specs.declared.Ran.{Ran}
 use Rattle.steps.specs.declared.Ran.the-variants.{Took}
@@ -26,7 +27,7 @@ use Rattle.steps.specs.Parts as part
 use Rattle.steps.proofs.Running.{whole-runnable}
 use Rattle.journal.specs.declared.Verdict.{Verdict}
 use Rattle.journal.specs.declared.Verdict.the-variants.{Done, Refused}
-use Rattle.journal.specs.Promises.{reportTo, verdictTo, Runs}
+use Rattle.journal.specs.Promises.{reportTo, verdictTo, verdictFrom, Runs}
 use Rattle.journal.proofs.Header.{header⇔}
 use Rattle.journal.proofs.Limits.{no-journal, too-long, no-room}
 
@@ -64,6 +65,11 @@ form-fits j b e =
     (λ q. below? (length b) (answerBytes * wholeRecords (length j))
     (λ r. let f = no-room (hasHeader j) (length j) (length b) h q r in absurd (omega arith))
     (λ r. (k, q, r)))
+
+-- there and back
+pub verdict-back : (v : asked.Verdict) → verdictFrom (verdictTo v) ≡ v
+verdict-back (ran r) = refl
+verdict-back (turnedAway n) = refl
 
 module _ (s : State) (j b : List ℕ) where
   refusal-valid : valid? s ≡ true → journalRefusal s j b ≡ form j b

@@ -18,6 +18,14 @@ abbrev pub verdictTo : model.Verdict → Verdict
 verdictTo (ran r) = Done (reportTo r)
 verdictTo (turnedAway n) = Refused n
 
+-- code's reports and verdicts as the model's
+abbrev pub reportFrom : Report → model.Report
+reportFrom r = record { taken = r .taken; accepted = r .accepted; refused = r .refused; leftOver = r .«left_over» }
+
+abbrev pub verdictFrom : Verdict → model.Verdict
+verdictFrom (Done r) = ran (reportFrom r)
+verdictFrom (Refused n) = turnedAway n
+
 -- document 01's run: journal j on state s, with the answer buffer b
 pub record Runs (s : State) (j b : List ℕ) (v : Verdict) (t : State) (c : List ℕ) : Type 0 where
   pub verdict : v ≡ verdictTo (journal s j b .verdict)

@@ -14,22 +14,18 @@ use Rattle.model.specs.Fresh.{fresh}
 use Rattle.model.specs.Valid.{valid?}
 use Rattle.model.specs.Step.{Answer, step}
 use Rattle.model.specs.Run.{run}
-use Rattle.model.specs.Journal.{ran, turnedAway, taken, recordAt, recordsOf, hasHeader, formRefusal, journalRefusal, After, journal}
+use Rattle.model.specs.Journal.{taken, recordAt, recordsOf, hasHeader, formRefusal, journalRefusal, After, journal}
 use Rattle.model.specs.Journal as model
 use Rattle.model.proofs.Run.{run-length}
 use Rattle.model.proofs.Journal.{either}
 use Rattle.steps.proofs.Storing.{length-pasted}
 use Rattle.journal.specs.declared.Verdict.{Verdict}
-use Rattle.journal.specs.Promises.{verdictTo, Runs}
-use Rattle.journal.proofs.Reports.{form-fits}
+use Rattle.journal.specs.Promises.{verdictTo, verdictFrom, Runs}
+use Rattle.journal.proofs.Reports.{form-fits, verdict-back}
 use Rattle.print.proofs.Typing.{typed-inside}
 use Rattle.print.specs.Text.{page, typedAll}
 use Rattle.output.specs.Output.{linesOf, printed}
-use Rattle.output.specs.Promises.{verdictFrom, takenIn, Prints}
-
-verdict-back : (v : model.Verdict) → verdictFrom (verdictTo v) ≡ v
-verdict-back (ran r) = refl
-verdict-back (turnedAway n) = refl
+use Rattle.output.specs.Promises.{takenIn, Prints}
 
 module _ (s : State) (j b : List ℕ) where
   form-passes : journalRefusal s j b ≡ 0 → formRefusal (hasHeader j) (length j) (length b) ≡ 0

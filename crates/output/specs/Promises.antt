@@ -5,21 +5,10 @@ use mathlib.Core.List.{List}
 use Prim.Native.Nat.{ℕ}
 use Rattle.model.specs.Fresh.{fresh}
 use Rattle.model.specs.Journal.{journal}
-use Rattle.model.specs.Journal.{ran, turnedAway}
-use Rattle.model.specs.Journal as model
-use Rattle.journal.specs.declared.Report.{Report}
 use Rattle.journal.specs.declared.Verdict.{Verdict}
 use Rattle.journal.specs.declared.Verdict.the-variants.{Done, Refused}
 use Rattle.print.specs.Text.{page, typedAll}
 use Rattle.output.specs.Output.{printed}
-
--- code's reports and verdicts as the model's
-abbrev pub reportFrom : Report → model.Report
-reportFrom r = record { taken = r .taken; accepted = r .accepted; refused = r .refused; leftOver = r .«left_over» }
-
-abbrev pub verdictFrom : Verdict → model.Verdict
-verdictFrom (Done r) = ran (reportFrom r)
-verdictFrom (Refused n) = turnedAway n
 
 -- the records whose answers are printed
 abbrev pub takenIn : Verdict → ℕ

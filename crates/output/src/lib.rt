@@ -10,7 +10,8 @@ ghost use Rattle.model.specs.Sizes.{byteBound, answerBytes};
 ghost use Rattle.model.specs.Records.{wordAt};
 ghost use Rattle.print.specs.Text.{page, typedAll};
 ghost use Rattle.output.specs.Output.{numberThen, recordLine, recordLines, refusedLine, cutLine, doneLine, reportLines, linesOf};
-ghost use Rattle.output.specs.Promises.{reportFrom, verdictFrom, takenIn, Prints};
+ghost use Rattle.journal.specs.Promises.{reportFrom, verdictFrom};
+ghost use Rattle.output.specs.Promises.{takenIn, Prints};
 
 const ANSWER: usize = steps::ANSWER;
 

@@ -1,13 +1,13 @@
 -- Bytes typed one after another: text after text, the buffer's length, and where the text fits.
 -- Assumes nothing.
 use mathlib.Core.Path.{_≡_, refl, sym, ap, subst, _∙_}
-use mathlib.Core.List.{List, [], _∷_, _++_, append-assoc}
+use mathlib.Core.List.{List, [], _∷_, _++_, append-assoc, append-nil}
 use Prim.Native.Nat.{ℕ, suc, _+_, _≤_, _<_}
 use native.Mathlib.Omega.{arith}
 use native.Mathlib.Numerals.{add-one}
 use borrow.Author.Tests.{lt-ltb, le-ltb}
 use lib.Dec.{ltb}
-use lib.ListN.{length, set, drop, length-set, length-append}
+use lib.ListN.{length, set, drop, length-set, length-append, drop-of-length-le}
 use lib.Seq.{drop-cons, set-append-seam, set-out}
 use Rattle.laws.specs.Choice.{pick, at}
 use Rattle.laws.proofs.Cases.{below?, pick-both}
@@ -98,3 +98,10 @@ fits-after ys (z ∷ b) (x ∷ xs) h =
 pub typed-fits : (b xs : List ℕ) → length xs ≤ length b → typedAll (page b 0) xs ≡ page (xs ++ drop (length xs) b) (length xs)
 typed-fits b xs h =
     let e : 0 + length xs ≡ length xs = omega arith in fits-after [] b xs h ∙ ap (page (xs ++ drop (length xs) b)) e
+
+-- Where the text is as long as the buffer, the buffer is the text.
+pub typed-whole : (b xs e : List ℕ) (n : ℕ) → length b ≡ length xs → page e n ≡ typedAll (page b 0) xs → e ≡ xs
+typed-whole b xs e n h q =
+    ap (λ (p : Page). p .bytes) (q ∙ typed-fits b xs (omega arith))
+    ∙ ap (λ (l : List ℕ). xs ++ l) (drop-of-length-le b {i = length xs} (omega arith))
+    ∙ append-nil xs

@@ -4,7 +4,7 @@ use mathlib.Core.Path.{_≡_, refl, sym, ap, _∙_}
 use mathlib.Core.List.{List, [], _∷_, _++_, append-assoc, append-nil}
 use Prim.Native.Nat.{ℕ, suc, _+_, _*_, _/_, _%_, _^_, _≤_}
 use native.Mathlib.Omega.{arith}
-use lib.ListN.{length, take, drop, set, length-append, length-drop, length-set}
+use lib.ListN.{length, take, drop, set, length-append, length-drop, length-set, drop-of-length-le}
 use lib.Seq.{sets, sets-eq, slice, take-add, take-at, drop-at, drop-append-add, drop-drop, length-take-le}
 use Rattle.model.specs.Sizes.{answerBytes, byteBound}
 use Rattle.model.specs.Records.{wordBytes}
@@ -70,6 +70,13 @@ module _ (l : List ℕ) (a n v : ℕ) where
       let e6 : a + 6 ≡ suc (suc (suc (suc (suc (suc a))))) = omega arith in
       let e7 : a + 7 ≡ suc (suc (suc (suc (suc (suc (suc a)))))) = omega arith in
       cc (e1, e2, e3, e4, e5, e6, e7)
+
+-- a buffer of one answer holds that answer
+pub stored-whole : (b : List ℕ) (x : Answer) → length b ≡ answerBytes → answerAt b 0 x ≡ answerBytesOf x
+stored-whole b x h =
+    sets-eq (answerBytesOf x) b 0 (omega arith)
+    ∙ ap (λ (l : List ℕ). answerBytesOf x ++ l) (drop-of-length-le b {i = answerBytes} (omega arith))
+    ∙ append-nil (answerBytesOf x)
 
 -- ---- answers one after another
 

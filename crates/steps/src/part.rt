@@ -14,7 +14,8 @@ ghost use Rattle.model.specs.Sizes.{recordBytes, answerBytes};
 ghost use Rattle.model.specs.Records.{wordBytes};
 ghost use Rattle.host.specs.View.{view};
 ghost use Rattle.steps.specs.Parts.{runnable, Runs};
-ghost use Rattle.steps.specs.Turns.{Turns, Plays, Stores};
+ghost use Rattle.model.specs.Journal.{answerBytesOf};
+ghost use Rattle.steps.specs.Turns.{answerFrom, Turns, Plays, Stores};
 
 const RECORD: usize = reader::RECORD;
 
@@ -56,6 +57,21 @@ fn store(out: &mut [u8], i: usize, a: Answer) -> usize
             if n == 0 { 1 } else { 0 }
         }
     }
+}
+
+// Over a part, so that its length is known.
+fn put_all(out: &mut [u8], a: Answer)
+    requires { ⌜ length (now out) ≡ answerBytes ⌝ }
+    ensures { λ _. ⌜ now (out .exit) ≡ answerBytesOf (answerFrom a) ⌝ }
+{
+    store(out, 0, a);
+}
+
+// The answer's bytes, for a caller that has it alone.
+pub fn put_answer(out: &mut [u8; ANSWER], a: Answer)
+    ensures { λ _. ⌜ now (out .exit) ≡ answerBytesOf (answerFrom a) ⌝ }
+{
+    put_all(out, a);
 }
 
 // The record that starts at `at`, judged where it lies; 1 if it is done.

@@ -8,7 +8,8 @@ use Rattle.model.specs.Sizes.{answerBytes}
 use Rattle.journal.specs.declared.Verdict.{Verdict}
 use Rattle.print.specs.Text.{page, typedAll}
 use Rattle.output.specs.Output.{linesOf}
-use Rattle.output.specs.Promises.{verdictFrom, takenIn}
+use Rattle.journal.specs.Promises.{verdictFrom}
+use Rattle.output.specs.Promises.{takenIn}
 use borrow.Author.Needs.{needs}
 use Rattle.output.proofs.lines_of.Statement.{statement}
 use Rattle.output.proofs.lines_of.Tie as tie

@@ -1,0 +1,34 @@
+-- What the exported functions promise, byte by byte, in the terms of the model.
+-- Assumes nothing.
+use mathlib.Core.Path.{_≡_}
+use mathlib.Core.List.{List, _++_}
+use Prim.Native.Nat.{ℕ, _*_}
+use Rattle.model.specs.State.{State}
+use Rattle.model.specs.Records.{wordBytes}
+use Rattle.model.specs.Step.{step}
+use Rattle.model.specs.Journal.{Verdict, Report, verdictNumber, reportOf, answerBytesOf, journal}
+
+-- the bytes of a number of 32 bits, and of a report: the verdict's number, taken, accepted, refused, left over
+abbrev pub wordSize : ℕ
+wordSize = 4
+
+abbrev pub reportSize : ℕ
+reportSize = 5 * wordSize
+
+abbrev pub countsBytes : Report → List ℕ
+countsBytes r = wordBytes (r .taken) ++ wordBytes (r .accepted) ++ wordBytes (r .refused) ++ wordBytes (r .leftOver)
+
+-- A refused journal's report is all zero but for its number.
+abbrev pub reportBytesOf : Verdict → List ℕ
+reportBytesOf v = wordBytes (verdictNumber v) ++ countsBytes (reportOf v)
+
+-- the record l on state s: state t and answer bytes c
+pub record StepsBytes (s : State) (l : List ℕ) (t : State) (c : List ℕ) : Type 0 where
+  pub state : t ≡ step s l .state
+  pub answer : c ≡ answerBytesOf (step s l .answer)
+
+-- the journal j on state s, with the answer buffer b: state t, answers c and report bytes d
+pub record RunsBytes (s : State) (j b : List ℕ) (t : State) (c d : List ℕ) : Type 0 where
+  pub state : t ≡ journal s j b .state
+  pub answers : c ≡ journal s j b .buffer
+  pub report : d ≡ reportBytesOf (journal s j b .verdict)

@@ -1,0 +1,70 @@
+// The host for programs in C or Rust: functions on lent bytes alone, none of which asks anything of the bytes. include/ration.h says what it asks of
+// the pointers.
+mod report; // report.rt: the bytes of a report
+
+use host::Host;
+use report::REPORT;
+use report::put_report;
+ghost use mathlib.Core.Path.{_≡_};
+ghost use Rattle.laws.specs.Search.{countBelow};
+ghost use Rattle.laws.specs.Bits.{marks};
+ghost use Rattle.model.specs.Sizes.{pages};
+ghost use Rattle.model.specs.Fresh.{fresh};
+ghost use Rattle.model.specs.Valid.{valid?};
+ghost use Rattle.host.specs.View.{bytes as stateBytes, view};
+ghost use Rattle.ration.specs.Promises.{StepsBytes, RunsBytes};
+
+// The bytes of a state.
+#[no_mangle]
+pub extern "C" fn ration_size() -> usize
+    ensures { λ r. ⌜ r ≡ stateBytes ⌝ }
+{
+    host::SIZE
+}
+
+// The fresh machine, whatever the bytes were.
+#[no_mangle]
+pub extern "C" fn ration_fresh(h: &mut Host)
+    ensures { λ _. ⌜ view (now (h .exit)) ≡ fresh ⌝ }
+{
+    host::fresh(h);
+}
+
+// Whether the state is valid, by the ten rules.
+#[no_mangle]
+pub extern "C" fn ration_valid(h: &Host) -> bool
+    ensures { λ r. ⌜ r ≡ valid? (view (now (h .entry))) ⌝ }
+{
+    rules::valid(h)
+}
+
+// How many pages the map marks as free.
+#[no_mangle]
+pub extern "C" fn ration_free_pages(h: &Host) -> u32
+    ensures { λ r. ⌜ r ≡ countBelow pages (marks (view (now (h .entry)) .shape .pages .free)) ⌝ }
+{
+    host::free_pages(h)
+}
+
+// A record, judged and done or refused; its answer's eight bytes.
+#[no_mangle]
+pub extern "C" fn ration_step(h: &mut Host, bytes: &[u8], answer: &mut [u8; steps::ANSWER])
+    ensures { λ _. ⌜ StepsBytes (view (now (h .entry))) (now (bytes .entry)) (view (now (h .exit))) (now (answer .exit)) ⌝ }
+{
+    let a = steps::step(h, bytes);
+    steps::put_answer(answer, a);
+}
+
+// A journal, run or refused; its answers, and its report's twenty bytes.
+#[no_mangle]
+pub extern "C" fn ration_run(
+    h: &mut Host,
+    journal: &[u8],
+    answers: &mut [u8],
+    report: &mut [u8; REPORT],
+)
+    ensures { λ _. ⌜ RunsBytes (view (now (h .entry))) (now (journal .entry)) (now (answers .entry)) (view (now (h .exit))) (now (answers .exit)) (now (report .exit)) ⌝ }
+{
+    let v = journal::run(h, journal, answers);
+    put_report(report, v);
+}
