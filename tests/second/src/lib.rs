@@ -5,6 +5,7 @@
 
 pub mod bytes;
 pub mod cache;
+pub mod cases;
 pub mod checks;
 pub mod damage;
 pub mod gen;

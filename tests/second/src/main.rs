@@ -1,15 +1,17 @@
-//! `second run|state|rules|step|gen SEED COUNT PROFILE|damage SEED COUNT`
+//! `second run|state|rules|step|cases|gen SEED COUNT PROFILE|damage SEED COUNT`
 
 use std::io::{self, BufRead, Read, Write};
 use std::process::ExitCode;
 
 use second::hex::{from_hex, to_hex};
 use second::journal::answer_bytes;
-use second::{damage, fresh, gen, program_output, rules, run_journal, step, State, STATE_BYTES};
+use second::{
+    cases, damage, fresh, gen, program_output, rules, run_journal, step, State, STATE_BYTES,
+};
 
 type Outcome = Result<(), String>;
 
-const USAGE: &str = "usage: second run | state | rules | step \
+const USAGE: &str = "usage: second run | state | rules | step | cases \
                      | gen SEED COUNT deep|near|noise | damage SEED COUNT";
 
 fn main() -> ExitCode {
@@ -20,6 +22,7 @@ fn main() -> ExitCode {
         ["state"] => state(),
         ["rules"] => each_line(rules_line),
         ["step"] => each_line(step_line),
+        ["cases"] => put(cases::cases().as_bytes()),
         ["gen", seed, count, profile] => generate(seed, count, profile),
         ["damage", seed, count] => damaged(seed, count),
         _ => Err(USAGE.into()),
