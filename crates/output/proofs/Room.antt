@@ -38,7 +38,7 @@ module _ (s : State) (j b : List ℕ) where
   room : answerBytes * takenIn (verdictTo (journal s j b .verdict)) ≤ length (journal s j b .buffer)
   room =
       either (λ a. answerBytes * takenIn (verdictTo (a .verdict)) ≤ length (a .buffer)) s j b
-      (λ e. let f = form-fits s j b (form-passes e) in
+      (λ e. let f = form-fits j b (form-passes e) in
       let n = answered in
       let p = length-pasted (run s (recordsOf j) .answers) b (omega arith) in
       omega arith)
