@@ -1,2 +1,3 @@
 pub mod Typing
 pub mod Decimal
+pub mod Answers

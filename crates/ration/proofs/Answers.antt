@@ -1,0 +1,22 @@
+-- At most one content of each lent buffer meets a promise.
+-- Assumes nothing.
+use mathlib.Core.Path.{_≡_, sym, _∙_}
+use mathlib.Core.List.{List}
+use Prim.Native.Nat.{ℕ}
+use Rattle.model.specs.State.{State}
+use Rattle.host.specs.View.{view, Whole}
+use Rattle.host.proofs.Inverse.{view-inj}
+use Rattle.ration.specs.Promises.{StepsBytes, RunsBytes}
+
+pub one-step : (s : State) (l : List ℕ) {x y c d : List ℕ} → Whole x → Whole y → StepsBytes s l (view x) c → StepsBytes s l (view y) d
+    → (x ≡ y) × (c ≡ d)
+one-step s l {x = x} {y = y} h k p q = (view-inj x y h k (p .state ∙ sym (q .state)), p .answer ∙ sym (q .answer))
+
+pub one-run : (s : State) (j b : List ℕ) {x y c d e f : List ℕ} → Whole x → Whole y → RunsBytes s j b (view x) c e
+    → RunsBytes s j b (view y) d f
+    → (x ≡ y) × (c ≡ d) × (e ≡ f)
+one-run s j b {x = x} {y = y} h k p q = (
+  view-inj x y h k (p .state ∙ sym (q .state)),
+  p .answers ∙ sym (q .answers),
+  p .report ∙ sym (q .report),
+)
