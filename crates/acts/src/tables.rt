@@ -12,23 +12,13 @@ ghost use Rattle.model.specs.State.{table, lineOf};
 ghost use Rattle.model.specs.Parts.{takeOut};
 ghost use Rattle.host.specs.View.{view};
 ghost use Rattle.host.specs.Lead.{heldOf};
-ghost use Rattle.asks.specs.Leads.{placeOf};
 ghost use Rattle.acts.specs.Mapped.{formerLine, remapped};
 
-// The page, or the number past the last: what is stored there is lost.
-fn place(l: Lead) -> Ma
-    ensures { λ r. ⌜ r .0 ≡ placeOf l ⌝ }
-{
-    match l {
-        Lead::To(p) => p,
-        Lead::Nowhere => Ma(host::PAGES as u8),
-    }
-}
-
+// Past the last page if there is none: what is stored there is lost.
 pub(crate) fn in_force(h: &Host) -> Ma
     ensures { λ r. ⌜ r .0 ≡ table (view (now (h .entry)) .shape) ⌝ }
 {
-    place(asks::table(h))
+    host::place(asks::table(h))
 }
 
 // The table in force leads from address a to what l says.

@@ -2,14 +2,14 @@
 -- Assumes nothing.
 use mathlib.Core.Path.{_≡_, refl, sym, _∙_}
 use mathlib.Core.Bool.{Bool, true, false, _&&_, not, true≢false}
-use Prim.Native.Nat.{ℕ, zero, suc, _+_, _*_, _<_}
+use Prim.Native.Nat.{ℕ, suc, _+_, _*_, _<_}
 use native.Mathlib.Omega.{arith}
 use lib.Dec.{eqb}
 use lib.ListN.{length}
-use borrow.Author.Tests.{eq-eqb, ne-eqb, lt-ltb, le-ltb}
+use borrow.Author.Tests.{eq-eqb, ne-eqb}
 use Rattle.laws.specs.Choice.{at, _⇔_}
 use Rattle.laws.specs.Search.{someBelow}
-use Rattle.laws.proofs.Cases.{split, same?, below?}
+use Rattle.laws.proofs.Cases.{split, below?}
 use Rattle.laws.proofs.Lists.{at-past}
 use Rattle.laws.proofs.Tests.{eq⇔, true⇔, and⇔, not⇔, as⇔, not-so}
 use Rattle.laws.proofs.Search.{some⇔}
@@ -18,20 +18,10 @@ use Rattle.model.specs.Sizes.{pages, addresses}
 use Rattle.model.specs.Names.{kindTable}
 use Rattle.model.specs.State.{Shape, isPage, isMapped, mapsPage}
 use Rattle.model.specs.Checks.{hasEntries}
-use Rattle.host.specs.Lead.{leadOf}
-use Rattle.asks.specs.Maps.{leadsTo, mapsPageOf, entryIs, entryMaps, rowMaps, tableMaps, entryThere, onlyAt, butAt}
+use Rattle.asks.specs.Maps.{mapsPageOf, entryIs, entryMaps, rowMaps, tableMaps, entryThere, onlyAt, butAt}
 use Rattle.asks.proofs.Some.{same-test}
 
 -- ---- one entry
-
-pub leads-is : (e p : ℕ) → leadsTo (leadOf e) p ≡ (isPage p && eqb e (suc p))
-leads-is zero p = split (isPage p) (λ t. rw (t, ne-eqb 0 (suc p) (λ q. omega arith))) (λ t. rw t)
-leads-is (suc q) p =
-    below? q pages
-    (λ h. rw (lt-ltb q pages h, lt-ltb q pages h) (same? q p
-    (λ e. let z : p < pages = omega arith in rw (eq-eqb q p e, eq-eqb (suc q) (suc p) (omega arith), lt-ltb p pages z))
-    (λ n. rw (ne-eqb q p n, ne-eqb (suc q) (suc p) (λ e. n (omega arith))) (split (isPage p) (λ t. rw t) (λ t. rw t)))))
-    (λ h. rw (le-ltb q pages h) (below? p pages (λ w. rw (lt-ltb p pages w, ne-eqb (suc q) (suc p) (λ e. omega arith))) (λ w. rw (le-ltb p pages w))))
 
 -- v is a, or another address
 module _ (h : Shape) (p t : ℕ) {v a : ℕ} where

@@ -15,9 +15,9 @@ use Rattle.model.specs.Checks.{Check, first, hasEntries}
 use Rattle.host.specs.declared.Ma.{Ma}
 use Rattle.host.specs.declared.Lead.{Lead}
 use Rattle.host.specs.declared.Lead.the-variants.{To, Nowhere}
-use Rattle.host.specs.Lead.{toward}
+use Rattle.host.specs.Lead.{toward, placeOf}
 use Rattle.host.proofs.Leads.{toward-page, toward-none}
-use Rattle.asks.specs.Leads.{placeOf, leads}
+use Rattle.asks.specs.Leads.{leads}
 use Rattle.asks.specs.Maps.{onlyAt, butAt}
 use Rattle.asks.specs.Refusals.{newPage, newSmPage, lswitchPage, unpinPage}
 

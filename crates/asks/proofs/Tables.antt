@@ -3,7 +3,7 @@
 use mathlib.Core.Path.{_≡_, sym, ap, _∙_}
 use mathlib.Core.Bool.{_&&_}
 use mathlib.Core.List.{List}
-use Prim.Native.Nat.{ℕ, zero, suc, _+_, _*_, _≤_, _<_}
+use Prim.Native.Nat.{ℕ, _+_, _*_, _≤_, _<_}
 use native.Mathlib.Omega.{arith}
 use lib.Dec.{eqb, ltb}
 use borrow.Author.Tests.{lt-ltb, le-ltb, eq-eqb, ne-eqb}
@@ -16,15 +16,8 @@ use Rattle.host.specs.declared.Ma.{Ma}
 use Rattle.host.specs.declared.Lead.{Lead}
 use Rattle.host.specs.declared.Lead.the-variants.{To, Nowhere}
 use Rattle.host.specs.Lead.{toward, leadOf}
-use Rattle.host.proofs.Leads.{toward-page, toward-none}
-use Rattle.asks.specs.Leads.{placeOf, onlyTable}
-
-pub lead-le : (e : ℕ) → lead e ≤ nowhere
-lead-le zero = omega arith
-lead-le (suc p) = below? p pages (λ h. rw (lt-ltb p pages h) (omega arith)) (λ h. rw (le-ltb p pages h) (omega arith))
-
-pub place-toward : (n : ℕ) → n ≤ nowhere → placeOf (toward n) ≡ n
-place-toward n h = below? n pages (λ b. ap placeOf (toward-page n b)) (λ b. ap placeOf (toward-none n b) ∙ omega arith)
+use Rattle.host.proofs.Leads.{toward-page, toward-none, lead-le}
+use Rattle.asks.specs.Leads.{onlyTable}
 
 -- the table among a page and nowhere
 table-toward : (kind : List ℕ) (n : ℕ) → onlyTable kind (toward n) ≡ toward (pick (eqb (at kind n) kindTable) n nowhere)

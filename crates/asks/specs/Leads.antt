@@ -1,4 +1,4 @@
--- A page or nowhere, as an answer of code and as the model's number.
+-- A page or nowhere, as an answer of code: whether it is a page, and a table.
 -- Assumes nothing.
 use mathlib.Core.Bool.{Bool, true, false}
 use mathlib.Core.List.{List}
@@ -6,13 +6,8 @@ use Prim.Native.Nat.{ℕ}
 use lib.Dec.{eqb}
 use Rattle.laws.specs.Choice.{pick, at}
 use Rattle.model.specs.Names.{kindTable}
-use Rattle.model.specs.State.{nowhere}
 use Rattle.host.specs.declared.Lead.{Lead}
 use Rattle.host.specs.declared.Lead.the-variants.{To, Nowhere}
-
-abbrev pub placeOf : Lead → ℕ
-placeOf (To p) = p .0
-placeOf Nowhere = nowhere
 
 -- the page if it is a table
 abbrev pub onlyTable : List ℕ → Lead → Lead

@@ -1,6 +1,6 @@
 -- Which page an entry leads to, and which tables map a page: what the scans of tables decide, table by table.
 -- Assumes nothing.
-use mathlib.Core.Bool.{Bool, false, _&&_, not}
+use mathlib.Core.Bool.{Bool, _&&_, not}
 use Prim.Native.Nat.{ℕ, suc, _+_, _*_}
 use lib.Dec.{eqb}
 use Rattle.laws.specs.Choice.{at}
@@ -8,12 +8,6 @@ use Rattle.laws.specs.Search.{someBelow}
 use Rattle.model.specs.Sizes.{pages, addresses}
 use Rattle.model.specs.Names.{kindTable}
 use Rattle.model.specs.State.{Shape, isPage, isMapped}
-use Rattle.host.specs.declared.Lead.{Lead}
-use Rattle.host.specs.declared.Lead.the-variants.{To, Nowhere}
-
-abbrev pub leadsTo : Lead → ℕ → Bool
-leadsTo (To q) p = eqb (q .0) p
-leadsTo Nowhere p = false
 
 -- some table maps the page at an address that passes the test: the model's question, asked of a page. No table maps a number past the last page.
 abbrev pub mapsPageOf : Shape → (ℕ → Bool) → ℕ → Bool

@@ -16,8 +16,8 @@ ghost use Rattle.model.specs.State.{table, mapped, here};
 ghost use Rattle.model.specs.Checks.{hasEntries};
 ghost use Rattle.host.specs.View.{view};
 ghost use Rattle.host.specs.Lead.{toward};
-ghost use Rattle.asks.specs.Leads.{placeOf, onlyTable};
-ghost use Rattle.asks.specs.Maps.{leadsTo, mapsPageOf, entryIs, entryMaps, rowMaps, tableMaps, entryThere, onlyAt, butAt};
+ghost use Rattle.asks.specs.Leads.{onlyTable};
+ghost use Rattle.asks.specs.Maps.{mapsPageOf, entryIs, entryMaps, rowMaps, tableMaps, entryThere, onlyAt, butAt};
 
 const PAGES: u8 = host::PAGES as u8;
 
@@ -35,20 +35,11 @@ fn either(x: bool, y: bool) -> bool
 
 // ---- which tables map a page
 
-fn leads_to(l: Lead, p: Ma) -> bool
-    ensures { λ r. ⌜ r ≡ leadsTo l (p .0) ⌝ }
-{
-    match l {
-        Lead::To(q) => q.0 == p.0,
-        Lead::Nowhere => false,
-    }
-}
-
 // Page t, read as a table, leads from address v to page p.
 fn entry_is(h: &Host, p: Ma, t: Ma, v: Va) -> bool
     ensures { λ r. ⌜ r ≡ entryIs (view (now (h .entry)) .shape) (p .0) (t .0) (v .0) ⌝ }
 {
-    leads_to(host::entry(h, t, v), p)
+    host::leads_to(host::entry(h, t, v), p)
 }
 
 // The same, v not being a.
@@ -203,21 +194,11 @@ pub fn table(h: &Host) -> Lead
     }
 }
 
-// The page, or the number past the last.
-fn place(l: Lead) -> Ma
-    ensures { λ r. ⌜ r .0 ≡ placeOf l ⌝ }
-{
-    match l {
-        Lead::To(p) => p,
-        Lead::Nowhere => Ma(PAGES),
-    }
-}
-
 // To what the table in force leads from address a.
 pub fn mapped(h: &Host, a: Va) -> Lead
     ensures { λ r. ⌜ r ≡ toward (mapped (view (now (h .entry)) .shape) (a .0)) ⌝ }
 {
-    host::entry(h, place(table(h)), a)
+    host::entry(h, host::place(table(h)), a)
 }
 
 // The page at the active guest's physical address a.

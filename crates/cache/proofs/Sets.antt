@@ -6,20 +6,17 @@ use mathlib.Core.List.{[], _∷_}
 use Prim.Native.Nat.{ℕ, zero, suc, _≤_, _<_}
 use native.Mathlib.Omega.{arith}
 use lib.Dec.{eqb}
-use borrow.Author.Tests.{eq-eqb, ne-eqb}
 use Rattle.laws.specs.Choice.{at}
 use Rattle.laws.specs.Search.{firstFrom, firstBelow}
-use Rattle.laws.proofs.Cases.{same?, below?}
+use Rattle.laws.proofs.Cases.{below?}
 use Rattle.laws.proofs.Lists.{at-past}
 use Rattle.laws.proofs.Search.{firstBelow-le, firstBelow-found, firstBelow-before, firstBelow-none, firstBelow-is}
 use Rattle.model.specs.Sizes.{pages, sets, ways, lines, setOf}
 use Rattle.model.specs.State.{State, lineAt, hasKey, hitWay}
 use Rattle.model.specs.Parts.{wayFor}
 use Rattle.model.specs.Valid.{Sized}
-use Rattle.model.proofs.RuleTests.{lead-page, lead-past}
-use Rattle.host.specs.Lead.{toward, leadOf}
-use Rattle.host.proofs.Leads.{toward-page}
-use Rattle.cache.specs.Sets.{lineFrom, setFrom, wayIn, leadsTo, hasKeyIn, findIn, emptyWay, placeIn}
+use Rattle.host.proofs.Leads.{leads-at}
+use Rattle.cache.specs.Sets.{lineFrom, setFrom, wayIn, hasKeyIn, findIn, emptyWay, placeIn}
 
 -- past the last set each number is 0
 pub set-past : (s : State) (k : ℕ) → Sized s → sets ≤ k → setFrom s sets ≡ setFrom s k
@@ -37,17 +34,6 @@ set-past s k z h =
 
 -- ---- the same tests
 
--- a place leads to page p if it holds p plus one
-pub leads : (e p : ℕ) → p < pages → leadsTo (leadOf e) p ≡ eqb e (suc p)
-leads zero p h = sym (ne-eqb 0 (suc p) (λ e. absurd (omega arith)))
-leads (suc q) p h =
-    below? q pages (λ l. ap (λ (m : ℕ). leadsTo (toward m) p) (lead-page q l) ∙ ap (λ l. leadsTo l p) (toward-page q l) ∙ next)
-    (λ l. ap (λ (m : ℕ). leadsTo (toward m) p) (lead-past q l) ∙ sym (ne-eqb (suc q) (suc p) (λ e. absurd (omega arith))))
-  where
-    next : eqb q p ≡ eqb (suc q) (suc p)
-    next = same? q p (λ e. eq-eqb q p e ∙ sym (eq-eqb (suc q) (suc p) (ap suc e)))
-        (λ n. ne-eqb q p n ∙ sym (ne-eqb (suc q) (suc p) (λ e. n (omega arith))))
-
 -- the same test, the same first number
 first-same : (n : ℕ) (f g : ℕ → Bool) → ((j : ℕ) → j < n → f j ≡ g j) → firstBelow n f ≡ firstBelow n g
 first-same n f g h =
@@ -61,9 +47,9 @@ first-same n f g h =
 
 same-key : (s : State) (k va p : ℕ) → p < pages → (w : ℕ) → w < ways → hasKeyIn (wayIn (setFrom s k) w) va p ≡ hasKey (s .shape) va p (lineAt k w)
 same-key s k va p h zero l =
-    ap (λ (b : Bool). b && eqb (at (s .shape .cache .lineAddress) (lineAt k 0)) va) (leads (at (s .shape .cache .linePage) (lineAt k 0)) p h)
+    ap (λ (b : Bool). b && eqb (at (s .shape .cache .lineAddress) (lineAt k 0)) va) (leads-at (at (s .shape .cache .linePage) (lineAt k 0)) p h)
 same-key s k va p h (suc zero) l =
-    ap (λ (b : Bool). b && eqb (at (s .shape .cache .lineAddress) (lineAt k 1)) va) (leads (at (s .shape .cache .linePage) (lineAt k 1)) p h)
+    ap (λ (b : Bool). b && eqb (at (s .shape .cache .lineAddress) (lineAt k 1)) va) (leads-at (at (s .shape .cache .linePage) (lineAt k 1)) p h)
 same-key s k va p h (suc (suc w)) l = absurd (omega arith)
 
 pub find-is-hit : (s : State) (va p : ℕ) → p < pages → findIn (setFrom s (setOf va)) va p ≡ hitWay (s .shape) va p

@@ -10,9 +10,8 @@ use Rattle.laws.specs.Search.{firstBelow}
 use Rattle.model.specs.Sizes.{ways}
 use Rattle.model.specs.State.{State, lineAt}
 use Rattle.model.specs.History.{oldest, used, entered}
-use Rattle.host.specs.declared.Lead.{Lead}
-use Rattle.host.specs.declared.Lead.the-variants.{To, Nowhere}
-use Rattle.host.specs.Lead.{ma, leadOf}
+use Rattle.host.specs.declared.Lead.the-variants.{To}
+use Rattle.host.specs.Lead.{ma, leadOf, leadsAt}
 use Rattle.cache.specs.declared.Line.{Line}
 use Rattle.cache.specs.declared.Set.{Set}
 
@@ -36,13 +35,8 @@ noWay = record { address = record { 0 = 0 }; page = To (ma 0); empty = false; va
 abbrev pub wayIn : Set → ℕ → Line
 wayIn t w = getD (t .ways) w noWay
 
--- the lead is to page p
-abbrev pub leadsTo : Lead → ℕ → Bool
-leadsTo (To q) p = eqb (q .0) p
-leadsTo Nowhere p = false
-
 abbrev pub hasKeyIn : Line → ℕ → ℕ → Bool
-hasKeyIn l va p = leadsTo (l .page) p && eqb (l .address .0) va
+hasKeyIn l va p = leadsAt (l .page) p && eqb (l .address .0) va
 
 -- the way that has the key, or `ways`
 unfoldable pub findIn : Set → ℕ → ℕ → ℕ

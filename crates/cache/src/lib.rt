@@ -15,7 +15,7 @@ ghost use mathlib.Core.Path.{_≡_};
 ghost use Prim.Native.Nat.{_≤_};
 ghost use Rattle.model.specs.Sizes.{sets};
 ghost use Rattle.host.specs.View.{view};
-ghost use Rattle.cache.specs.Sets.{lineFrom, setFrom, leadsTo, hasKeyIn, findIn, emptyWay, placeIn, replacedIn, usedIn, enteredIn};
+ghost use Rattle.cache.specs.Sets.{lineFrom, setFrom, hasKeyIn, findIn, emptyWay, placeIn, replacedIn, usedIn, enteredIn};
 
 pub const WAYS: usize = host::WAYS;
 
@@ -36,22 +36,12 @@ pub struct Set {
 
 // ---- a set by value
 
-// Whether the lead is to page p.
-pub fn leads_to(l: Lead, p: Ma) -> bool
-    ensures { λ r. ⌜ r ≡ leadsTo l (p .0) ⌝ }
-{
-    match l {
-        Lead::To(q) => q.0 == p.0,
-        Lead::Nowhere => false,
-    }
-}
-
 // Whether the line has the key: page and address.
 pub fn has_key(l: Line, a: Va, p: Ma) -> bool
     ensures { λ r. ⌜ r ≡ hasKeyIn l (a .0) (p .0) ⌝ }
 {
     let to = l.page;
-    leads_to(to, p) && l.address.0 == a.0
+    host::leads_to(to, p) && l.address.0 == a.0
 }
 
 // The way with the key, or WAYS.

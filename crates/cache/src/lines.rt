@@ -3,7 +3,6 @@ use super::Set;
 use super::WAYS;
 use super::entered;
 use super::find;
-use super::leads_to;
 use super::load;
 use super::place;
 use super::used;
@@ -142,7 +141,7 @@ fn is_of(h: &Host, i: usize, p: Ma) -> bool
     requires { ⌜ p .0 < pages ⌝ }
     ensures { λ r. ⌜ r ≡ isOf (view (now (h .entry)) .shape) (p .0) i ⌝ }
 {
-    leads_to(host::line_page(h, i), p)
+    host::leads_to(host::line_page(h, i), p)
 }
 
 // The first line of page p, or LINES.

@@ -7,7 +7,6 @@ use host::Lead;
 use host::Ma;
 use host::OWNER_GUEST;
 use host::Va;
-use seek::number_of;
 ghost use mathlib.Core.Path.{_≡_};
 ghost use Prim.Native.Nat.{_+_, _*_, _/_, _%_, _<_};
 ghost use Rattle.host.specs.View.{view};
@@ -42,7 +41,7 @@ pub fn own(h: &Host, m: Ma, a: Va) -> bool
 fn counted_page(h: &Host, m: Ma, a: Va) -> Ma
     ensures { λ r. ⌜ r .0 ≡ counted (view (now (h .entry))) (m .0) (a .0) ⌝ }
 {
-    let p = number_of(host::entry(h, m, a));
+    let p = host::place(host::entry(h, m, a));
     if (host::kind(h, m) == KIND_TABLE)
         & (p.0 < PAGES)
         & (host::kind(h, p) == KIND_DATA)

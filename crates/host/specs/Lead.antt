@@ -1,11 +1,11 @@
 -- What a place that holds a page plus one leads to, as an answer of code, and what is stored for it.
 -- Assumes nothing.
-use mathlib.Core.Bool.{Bool}
+use mathlib.Core.Bool.{Bool, false}
 use Prim.Native.Nat.{ℕ, suc}
-use lib.Dec.{ltb}
+use lib.Dec.{ltb, eqb}
 use Rattle.laws.specs.Choice.{pick}
 use Rattle.model.specs.Sizes.{pages}
-use Rattle.model.specs.State.{lead, isPage}
+use Rattle.model.specs.State.{lead, nowhere, isPage}
 use Rattle.host.specs.declared.Ma.{Ma}
 use Rattle.host.specs.declared.Lead.{Lead}
 use Rattle.host.specs.declared.Lead.the-variants.{To, Nowhere}
@@ -24,3 +24,13 @@ leadOf e = toward (lead e)
 abbrev pub heldOf : Lead → ℕ
 heldOf (To p) = pick (isPage (p .0)) (suc (p .0)) 0
 heldOf Nowhere = 0
+
+-- as the model's number: the page, or nowhere
+abbrev pub placeOf : Lead → ℕ
+placeOf (To p) = p .0
+placeOf Nowhere = nowhere
+
+-- the lead is to page p
+abbrev pub leadsAt : Lead → ℕ → Bool
+leadsAt (To q) p = eqb (q .0) p
+leadsAt Nowhere p = false

@@ -69,7 +69,7 @@ ghost use Rattle.laws.specs.Choice.{at};
 ghost use Rattle.model.specs.Sizes.{addresses, physicals};
 ghost use Rattle.host.specs.Cut.{begin, size};
 ghost use Rattle.host.specs.View.{sizes, bytes, view, Whole, listed, column, put, ownerField, kindField, cacheableField, entryField, physicalField, currentField, callField, callAField, callBField, lineAddressField, linePageField, historyField, slotAddressField, slotPageField};
-ghost use Rattle.host.specs.Lead.{leadOf, heldOf};
+ghost use Rattle.host.specs.Lead.{leadOf, heldOf, placeOf, leadsAt};
 
 pub type Host = [u8; SIZE];
 
@@ -151,6 +151,26 @@ fn held_of(l: Lead) -> u8
             if (n as usize) < PAGES { n + 1 } else { 0 }
         }
         Lead::Nowhere => 0,
+    }
+}
+
+// The page, or the number past the last.
+pub fn place(l: Lead) -> Ma
+    ensures { λ r. ⌜ r .0 ≡ placeOf l ⌝ }
+{
+    match l {
+        Lead::To(p) => p,
+        Lead::Nowhere => Ma(PAGES as u8),
+    }
+}
+
+// Whether the lead is to page p.
+pub fn leads_to(l: Lead, p: Ma) -> bool
+    ensures { λ r. ⌜ r ≡ leadsAt l (p .0) ⌝ }
+{
+    match l {
+        Lead::To(q) => q.0 == p.0,
+        Lead::Nowhere => false,
     }
 }
 

@@ -15,7 +15,7 @@ use Rattle.model.specs.History.{start}
 use Rattle.model.specs.RuleTests.{stealthPage, rule9?}
 use Rattle.lines.specs.Lines.{firstWay}
 use Rattle.seek.proofs.Loops.{all-made, all-fails}
-use Rattle.seek.proofs.Leading.{leads-at}
+use Rattle.host.proofs.Leads.{leads-at}
 
 -- ---- 9
 

@@ -56,13 +56,13 @@ pub fn line(h: &Host, i: u8) -> bool
 fn table_in_force(h: &Host) -> Ma
     ensures { λ r. ⌜ r .0 ≡ table (view (now (h .entry)) .shape) ⌝ }
 {
-    seek::number_of(asks::table(h))
+    host::place(asks::table(h))
 }
 
 fn slot_by(h: &Host, m: Ma, i: u8, a: Va, p: Ma) -> bool
     ensures { λ r. ⌜ r ≡ slotBy (view (now (h .entry))) (m .0) i (a .0) (p .0) ⌝ }
 {
-    let mapped = seek::leads_at(host::entry(h, m, a), p);
+    let mapped = host::leads_to(host::entry(h, m, a), p);
     (a.0 < ADDRESSES) & (a.0 % SLOTS == i) & (m.0 < PAGES) & mapped
 }
 
@@ -82,7 +82,7 @@ pub fn slot(h: &Host, i: u8) -> bool
 fn stealth_page(h: &Host, m: Ma) -> Ma
     ensures { λ r. ⌜ r .0 ≡ stealthPage (view (now (h .entry)) .shape .pages .entry) (m .0) ⌝ }
 {
-    let p = seek::number_of(host::entry(h, m, Va(STEALTH)));
+    let p = host::place(host::entry(h, m, Va(STEALTH)));
     if m.0 < PAGES { p } else { Ma(PAGES) }
 }
 
@@ -90,7 +90,7 @@ fn first_way(h: &Host, p: Ma) -> bool
     ensures { λ r. ⌜ r ≡ firstWay (view (now (h .entry))) (p .0) ⌝ }
 {
     let a = host::line_address(h, STEALTH_LINE);
-    let led = seek::leads_at(host::line_page(h, STEALTH_LINE), p);
+    let led = host::leads_to(host::line_page(h, STEALTH_LINE), p);
     let empty = host::line_empty(h, STEALTH_LINE);
     if p.0 < PAGES {
         led & (a.0 == STEALTH)

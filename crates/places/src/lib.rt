@@ -126,7 +126,7 @@ pub fn current_table(h: &Host, g: Guest) -> bool
     ensures { λ r. ⌜ r ≡ currentTable (view (now (h .entry))) (g .0) ⌝ }
 {
     let a = host::current(h, g);
-    let m = seek::number_of(host::physical(h, g, a));
+    let m = host::place(host::physical(h, g, a));
     (a.0 < PHYSICALS)
         & (m.0 < PAGES)
         & (host::kind(h, m) == KIND_TABLE)
@@ -136,7 +136,7 @@ pub fn current_table(h: &Host, g: Guest) -> bool
 pub fn stealth_cacheable(h: &Host, m: Ma) -> bool
     ensures { λ r. ⌜ r ≡ stealthCacheable (view (now (h .entry))) (m .0) ⌝ }
 {
-    let p = seek::number_of(host::entry(h, m, Va(STEALTH)));
+    let p = host::place(host::entry(h, m, Va(STEALTH)));
     let mapped = (host::kind(h, m) == KIND_TABLE) & (p.0 < PAGES);
     seek::implies(mapped, host::cacheable(h, p) == CACHEABLE)
 }

@@ -14,13 +14,13 @@ use Rattle.model.specs.Names.{ownerGuest, kindData}
 use Rattle.model.specs.State.{State, isPage, table, mapsPage}
 use Rattle.model.specs.Valid.{Sized}
 use Rattle.model.specs.RuleTests.{leadsTo, rule3?, rule4?, rule7?, rule8?}
-use Rattle.host.specs.Lead.{leadOf}
-use Rattle.seek.specs.Leads.{leadsAt}
+use Rattle.host.specs.Lead.{leadOf, leadsAt}
+use Rattle.host.proofs.Leads.{leads-at}
 use Rattle.places.specs.Places.{heldBy, heldOnce, registeredAt}
 use Rattle.lines.specs.Lines.{linedBy, lined, slotBy, slotted}
 use Rattle.entries.specs.Entries.{ownBy, ownAt}
 use Rattle.seek.proofs.Loops.{all-same, some-same, all-places}
-use Rattle.seek.proofs.Leading.{leads-same, leads-at}
+use Rattle.seek.proofs.Leading.{leads-same}
 
 module _ (s : State) (size : Sized s) where
   -- ---- 3

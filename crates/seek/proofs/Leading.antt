@@ -8,26 +8,15 @@ use lib.Dec.{ltb, eqb}
 use borrow.Author.Tests.{lt-ltb, le-ltb, ne-eqb, eq-eqb}
 use Rattle.laws.proofs.Cases.{same?, below?}
 use Rattle.model.specs.Sizes.{pages}
-use Rattle.model.specs.State.{lead, nowhere, isPage}
+use Rattle.model.specs.State.{lead, isPage}
 use Rattle.model.specs.RuleTests.{leadsTo}
-use Rattle.model.proofs.RuleTests.{lead-page, lead-past, lead-holds}
+use Rattle.model.proofs.RuleTests.{lead-page, lead-holds}
 use Rattle.host.specs.declared.Ma.{Ma}
 use Rattle.host.specs.declared.Lead.{Lead}
 use Rattle.host.specs.declared.Lead.the-variants.{To, Nowhere}
-use Rattle.host.specs.Lead.{ma, leadOf, toward}
-use Rattle.host.proofs.Leads.{toward-page, toward-none}
-use Rattle.seek.specs.Leads.{number, leadsAt, placed}
-
-lead-le : (e : ℕ) → lead e ≤ pages
-lead-le zero = omega arith
-lead-le (suc p) = below? p pages (λ h. omega (arith, lead-page p h)) (λ h. omega (arith, lead-past p h))
-
-pub number-toward : (n : ℕ) → n ≤ nowhere → number (toward n) ≡ n
-number-toward n k =
-    below? n pages (λ h. ap number (toward-page n h)) (λ h. ap number (toward-none n h) ∙ omega arith)
-
-pub number-lead : (e : ℕ) → number (leadOf e) ≡ lead e
-number-lead e = number-toward (lead e) (lead-le e)
+use Rattle.host.specs.Lead.{ma, leadOf, placeOf}
+use Rattle.host.proofs.Leads.{toward-page, toward-none, place-lead}
+use Rattle.seek.specs.Leads.{placed}
 
 -- ---- a lead to a page
 
@@ -36,7 +25,7 @@ module _ (e : ℕ) (q : Ma) (l : leadOf e ≡ To q) where
   to-below = below? (lead e) pages (λ h. h) (λ h. let n : leadOf e ≡ Nowhere = toward-none (lead e) h in let z : _≡_ {A = ℕ} 0 1 = cc in absurd (omega arith))
 
   pub to-lead : lead e ≡ q .0
-  to-lead = sym (number-lead e) ∙ ap number l
+  to-lead = sym (place-lead e) ∙ ap placeOf l
 
   pub to-held : e ≡ suc (q .0)
   to-held = lead-holds e to-below ∙ ap suc to-lead
@@ -67,17 +56,6 @@ pub leads-same : (e : ℕ) {t u : ℕ → Bool} → ((p : ℕ) → p < pages →
 leads-same e {t} {u} h =
     below? (lead e) pages (λ b. ap (λ (x : Bool). eqb e 0 || (isPage (lead e) && x)) (h (lead e) b))
     (λ b. let l : leadOf e ≡ Nowhere = toward-none (lead e) b in leads-nowhere e l t ∙ sym (leads-nowhere e l u))
-
--- ---- the page at a place
-
-pub leads-at : (e p : ℕ) → p < pages → leadsAt (leadOf e) p ≡ eqb e (suc p)
-leads-at e p h =
-    below? (lead e) pages
-    (λ b. let z : e ≡ suc (lead e) = lead-holds e b in
-    ap (λ (k : Lead). leadsAt k p) (toward-page (lead e) b)
-    ∙ same? (lead e) p (λ q. eq-eqb (lead e) p q ∙ sym (eq-eqb e (suc p) (omega arith))) (λ q. ne-eqb (lead e) p q ∙ sym (ne-eqb e (suc p) (λ w. q (omega arith)))))
-    (λ b. ap (λ (k : Lead). leadsAt k p) (toward-none (lead e) b)
-    ∙ sym (ne-eqb e (suc p) (λ w. let z : lead e ≡ p = ap lead w ∙ lead-page p h in absurd (omega arith))))
 
 -- a page or empty: the number is in range
 pub placed-is : (e : ℕ) → placed (leadOf e) (eqb e 0) ≡ ltb e (suc pages)

@@ -1,26 +1,16 @@
 -- To what a place leads, and what is sought among places.
 -- Assumes nothing.
-use mathlib.Core.Bool.{Bool, true, false, _&&_, not}
+use mathlib.Core.Bool.{Bool, true, _&&_, not}
 use Prim.Native.Nat.{ℕ, _+_, _*_}
 use lib.Dec.{eqb}
 use Rattle.laws.specs.Choice.{at, _⇒_}
 use Rattle.model.specs.Sizes.{physicals, pages}
-use Rattle.model.specs.State.{State, nowhere}
-use Rattle.host.specs.Lead.{leadOf}
+use Rattle.model.specs.State.{State}
+use Rattle.host.specs.Lead.{leadOf, leadsAt}
 use Rattle.host.specs.declared.Lead.{Lead}
 use Rattle.host.specs.declared.Lead.the-variants.{To, Nowhere}
 use Rattle.seek.specs.declared.Sought.{Sought}
 use Rattle.seek.specs.declared.Sought.the-variants.{HeldAgain, HeldAt, KeyAgain}
-
--- as the model's number
-abbrev pub number : Lead → ℕ
-number (To p) = p .0
-number Nowhere = nowhere
-
--- to page p
-abbrev pub leadsAt : Lead → ℕ → Bool
-leadsAt (To q) p = eqb (q .0) p
-leadsAt Nowhere p = false
 
 -- to a page, or the place is empty
 abbrev pub placed : Lead → Bool → Bool

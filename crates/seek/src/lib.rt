@@ -1,7 +1,6 @@
 // Searches among places, and what they read.
 use host::Guest;
 use host::Host;
-use host::Lead;
 use host::Ma;
 use host::Pa;
 use host::Va;
@@ -10,7 +9,7 @@ ghost use Prim.Native.Nat.{_+_, _<_};
 ghost use Rattle.laws.specs.Choice.{_⇒_};
 ghost use Rattle.laws.specs.Search.{someBelow};
 ghost use Rattle.host.specs.View.{view};
-ghost use Rattle.seek.specs.Leads.{number, leadsAt, sought};
+ghost use Rattle.seek.specs.Leads.{sought};
 
 // What is sought: page p at another physical address of guest g than a, or at any; a key in another line than j.
 pub enum Sought {
@@ -19,51 +18,30 @@ pub enum Sought {
     KeyAgain(usize, Va, Ma),
 }
 
-const PAGES: u8 = host::PAGES as u8;
-
 pub fn implies(a: bool, b: bool) -> bool
     ensures { λ r. ⌜ r ≡ (a ⇒ b) ⌝ }
 {
     !a | b
 }
 
-// The page, or nowhere: a number past every page.
-pub fn number_of(l: Lead) -> Ma
-    ensures { λ r. ⌜ r .0 ≡ number l ⌝ }
-{
-    match l {
-        Lead::To(p) => p,
-        Lead::Nowhere => Ma(PAGES),
-    }
-}
-
-pub fn leads_at(l: Lead, p: Ma) -> bool
-    ensures { λ r. ⌜ r ≡ leadsAt l (p .0) ⌝ }
-{
-    match l {
-        Lead::To(q) => q.0 == p.0,
-        Lead::Nowhere => false,
-    }
-}
-
 fn held_again(h: &Host, g: Guest, a: Pa, p: Ma, i: u8) -> bool
     ensures { λ r. ⌜ r ≡ sought (Sought.HeldAgain g a p) (view (now (h .entry))) i ⌝ }
 {
-    let l = leads_at(host::physical(h, g, Pa(i)), p);
+    let l = host::leads_to(host::physical(h, g, Pa(i)), p);
     !implies(l, a.0 == i)
 }
 
 fn held_at(h: &Host, g: Guest, p: Ma, i: u8) -> bool
     ensures { λ r. ⌜ r ≡ sought (Sought.HeldAt g p) (view (now (h .entry))) i ⌝ }
 {
-    leads_at(host::physical(h, g, Pa(i)), p)
+    host::leads_to(host::physical(h, g, Pa(i)), p)
 }
 
 fn key_again(h: &Host, j: usize, a: Va, p: Ma, i: u8) -> bool
     ensures { λ r. ⌜ r ≡ sought (Sought.KeyAgain j a p) (view (now (h .entry))) i ⌝ }
 {
     let k = i as usize;
-    let l = leads_at(host::line_page(h, k), p);
+    let l = host::leads_to(host::line_page(h, k), p);
     let b = host::line_address(h, k);
     !implies(l & (a.0 == b.0), j == k)
 }

@@ -6,8 +6,8 @@ use Rattle.laws.specs.Choice.{at}
 use Rattle.model.specs.Sizes.{addresses}
 use Rattle.host.specs.View.{view}
 use Rattle.host.specs.declared.Lead.{Lead}
-use Rattle.asks.specs.Maps.{leadsTo}
-use Rattle.asks.proofs.Maps.{leads-is}
+use Rattle.host.specs.Lead.{leadsAt}
+use Rattle.host.proofs.Leads.{leads-is}
 use borrow.Author.Needs.{needs}
 use Rattle.asks.proofs.entry_is.Statement.{statement}
 use Rattle.asks.proofs.entry_is.Tie as tie
@@ -22,7 +22,7 @@ returns : tie.Need-returns
 returns c =
     let a = c .before .before .args in
     let e = at (view (a .h .now) .shape .pages .entry) (addresses * a .t .0 + a .v .0) in
-    c .leads-to .ensures ∙ ap (λ (l : Lead). leadsTo l (a .p .0)) (c .before .entry .ensures) ∙ leads-is e (a .p .0)
+    c .leads-to .ensures ∙ ap (λ (l : Lead). leadsAt l (a .p .0)) (c .before .entry .ensures) ∙ leads-is e (a .p .0)
 
 pub entry-is-spec : {M : Type 1} → statement M
 entry-is-spec = tie.close (tie.spec entry-requires leads-to-requires returns)

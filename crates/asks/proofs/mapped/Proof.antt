@@ -6,9 +6,9 @@ use Rattle.laws.specs.Choice.{at}
 use Rattle.model.specs.Sizes.{addresses}
 use Rattle.model.specs.State.{table}
 use Rattle.host.specs.View.{view}
-use Rattle.host.specs.Lead.{leadOf}
-use Rattle.asks.specs.Leads.{placeOf}
-use Rattle.asks.proofs.Tables.{place-toward, table-below}
+use Rattle.host.specs.Lead.{leadOf, placeOf}
+use Rattle.host.proofs.Leads.{place-toward}
+use Rattle.asks.proofs.Tables.{table-below}
 use borrow.Author.Needs.{needs}
 use Rattle.asks.proofs.mapped.Statement.{statement}
 use Rattle.asks.proofs.mapped.Tie as tie

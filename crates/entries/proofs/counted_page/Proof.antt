@@ -6,8 +6,8 @@ use Prim.Native.Nat.{ℕ, _+_, _*_}
 use Rattle.laws.specs.Choice.{at}
 use Rattle.model.specs.Sizes.{addresses}
 use Rattle.host.specs.View.{view}
-use Rattle.seek.specs.Leads.{number}
-use Rattle.seek.proofs.Leading.{number-lead}
+use Rattle.host.specs.Lead.{placeOf}
+use Rattle.host.proofs.Leads.{place-lead}
 use Rattle.entries.proofs.Shared.{count-page, count-none}
 use borrow.Author.Needs.{needs}
 use Rattle.entries.proofs.counted_page.Statement.{statement}
@@ -16,8 +16,8 @@ use Rattle.entries.proofs.counted_page.Tie as tie
 entry-requires : tie.Need-entry-requires
 entry-requires c κs = search needs
 
-number-of-requires : tie.Need-number-of-requires
-number-of-requires c κs = search needs
+place-requires : tie.Need-place-requires
+place-requires c κs = search needs
 
 kind-requires : tie.Need-kind-requires
 kind-requires c κs = search needs
@@ -32,22 +32,22 @@ returns : tie.Need-returns
 returns c =
     let a = c .before .before .before .before .before .before .before .args in
     let s = view (a .h .now) in
-    let e = c .before .before .before .before .before .number-of .ensures ∙ ap number (c .before .before .before .before .before .before .entry .ensures) ∙ number-lead (at (s .shape .pages .entry) (addresses * a .m .0 + a .a .0)) in
-    count-page s (a .m .0) (a .a .0) (c .before .before .before .before .before .number-of .result .0) (c .before .before .before .before .kind .result) (c .before .before .kind2 .result) (c .before .cacheable .result) e (c .before .before .before .before .kind .ensures) (c .before .before .kind2 .ensures) (c .before .cacheable .ensures) (c .if1 .taken)
+    let e = c .before .before .before .before .before .place .ensures ∙ ap placeOf (c .before .before .before .before .before .before .entry .ensures) ∙ place-lead (at (s .shape .pages .entry) (addresses * a .m .0 + a .a .0)) in
+    count-page s (a .m .0) (a .a .0) (c .before .before .before .before .before .place .result .0) (c .before .before .before .before .kind .result) (c .before .before .kind2 .result) (c .before .cacheable .result) e (c .before .before .before .before .kind .ensures) (c .before .before .kind2 .ensures) (c .before .cacheable .ensures) (c .if1 .taken)
 
 returns-2 : tie.Need-returns-2
 returns-2 c =
     let a = c .before .before .before .before .before .before .before .args in
     let s = view (a .h .now) in
-    let e = c .before .before .before .before .before .number-of .ensures ∙ ap number (c .before .before .before .before .before .before .entry .ensures) ∙ number-lead (at (s .shape .pages .entry) (addresses * a .m .0 + a .a .0)) in
-    count-none s (a .m .0) (a .a .0) (c .before .before .before .before .before .number-of .result .0) (c .before .before .before .before .kind .result) (c .before .before .kind2 .result) (c .before .cacheable .result) e (c .before .before .before .before .kind .ensures) (c .before .before .kind2 .ensures) (c .before .cacheable .ensures) (c .if1 .left)
+    let e = c .before .before .before .before .before .place .ensures ∙ ap placeOf (c .before .before .before .before .before .before .entry .ensures) ∙ place-lead (at (s .shape .pages .entry) (addresses * a .m .0 + a .a .0)) in
+    count-none s (a .m .0) (a .a .0) (c .before .before .before .before .before .place .result .0) (c .before .before .before .before .kind .result) (c .before .before .kind2 .result) (c .before .cacheable .result) e (c .before .before .before .before .kind .ensures) (c .before .before .kind2 .ensures) (c .before .cacheable .ensures) (c .if1 .left)
 
 pub counted-page-spec : {M : Type 1} → statement M
 counted-page-spec =
     tie.close
     (tie.spec
     entry-requires
-    number-of-requires
+    place-requires
     kind-requires
     kind-requires-2
     cacheable-requires

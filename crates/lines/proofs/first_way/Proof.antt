@@ -16,15 +16,15 @@ line-address-requires c κs = search needs
 line-page-requires : tie.Need-line-page-requires
 line-page-requires c κs = search needs
 
-leads-at-requires : tie.Need-leads-at-requires
-leads-at-requires c κs = search needs
+leads-to-requires : tie.Need-leads-to-requires
+leads-to-requires c κs = search needs
 
 line-empty-requires : tie.Need-line-empty-requires
 line-empty-requires c κs = search needs
 
 returns : tie.Need-returns
 unfolding firstWay
-returns c = rw (lt-ltb (c .before .before .before .before .before .before .before .args .p .0) pages (omega arith), c .before .before .before .before .leads-at .ensures, c .before .before .before .before .before .line-page .ensures, c .before .before .before .before .before .before .line-address .ensures)
+returns c = rw (lt-ltb (c .before .before .before .before .before .before .before .args .p .0) pages (omega arith), c .before .before .before .before .leads-to .ensures, c .before .before .before .before .before .line-page .ensures, c .before .before .before .before .before .before .line-address .ensures)
 
 returns-2 : tie.Need-returns-2
 unfolding firstWay
@@ -36,7 +36,7 @@ first-way-spec =
     (tie.spec
     line-address-requires
     line-page-requires
-    leads-at-requires
+    leads-to-requires
     line-empty-requires
     returns
     returns-2)

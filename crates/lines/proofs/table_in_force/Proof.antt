@@ -3,8 +3,8 @@
 use mathlib.Core.Path.{ap, _∙_}
 use Rattle.model.specs.State.{table}
 use Rattle.host.specs.View.{view}
-use Rattle.seek.specs.Leads.{number}
-use Rattle.seek.proofs.Leading.{number-toward}
+use Rattle.host.specs.Lead.{placeOf}
+use Rattle.host.proofs.Leads.{place-toward}
 use Rattle.asks.proofs.Tables.{table-below}
 use borrow.Author.Needs.{needs}
 use Rattle.lines.proofs.table_in_force.Statement.{statement}
@@ -13,13 +13,13 @@ use Rattle.lines.proofs.table_in_force.Tie as tie
 table-requires : tie.Need-table-requires
 table-requires c κs = search needs
 
-number-of-requires : tie.Need-number-of-requires
-number-of-requires c κs = search needs
+place-requires : tie.Need-place-requires
+place-requires c κs = search needs
 
 returns : tie.Need-returns
 returns c =
     let s = view (c .before .before .args .h .now) .shape in
-    c .number-of .ensures ∙ ap number (c .before .table .ensures) ∙ number-toward (table s) (table-below s)
+    c .place .ensures ∙ ap placeOf (c .before .table .ensures) ∙ place-toward (table s) (table-below s)
 
 pub table-in-force-spec : {M : Type 1} → statement M
-table-in-force-spec = tie.close (tie.spec table-requires number-of-requires returns)
+table-in-force-spec = tie.close (tie.spec table-requires place-requires returns)

@@ -5,7 +5,7 @@ use Rattle.laws.specs.Choice.{at}
 use Rattle.model.specs.Sizes.{physicals}
 use Rattle.host.specs.View.{view}
 use Rattle.places.specs.Places.{currentTable}
-use Rattle.seek.proofs.Leading.{number-lead}
+use Rattle.host.proofs.Leads.{place-lead}
 use borrow.Author.Needs.{needs}
 use Rattle.places.proofs.current_table.Statement.{statement}
 use Rattle.places.proofs.current_table.Tie as tie
@@ -16,8 +16,8 @@ current-requires c κs = search needs
 physical-requires : tie.Need-physical-requires
 physical-requires c κs = search needs
 
-number-of-requires : tie.Need-number-of-requires
-number-of-requires c κs = search needs
+place-requires : tie.Need-place-requires
+place-requires c κs = search needs
 
 kind-requires : tie.Need-kind-requires
 kind-requires c κs = search needs
@@ -39,7 +39,7 @@ unfolding currentTable
 returns c =
     let a = c .before .before .before .before .before .before .before .before .args in
     let s = view (a .h .now) in
-    rw (c .before .owner .ensures, c .before .before .kind .ensures, c .before .before .before .before .before .number-of .ensures, c .before .before .before .before .before .before .physical .ensures, c .before .before .before .before .before .before .before .current .ensures, number-lead (at (s .shape .pages .physical) (physicals * a .g .0 + at (s .shape .guests .current) (a .g .0))))
+    rw (c .before .owner .ensures, c .before .before .kind .ensures, c .before .before .before .before .before .place .ensures, c .before .before .before .before .before .before .physical .ensures, c .before .before .before .before .before .before .before .current .ensures, place-lead (at (s .shape .pages .physical) (physicals * a .g .0 + at (s .shape .guests .current) (a .g .0))))
 
 pub current-table-spec : {M : Type 1} → statement M
 current-table-spec =
@@ -47,7 +47,7 @@ current-table-spec =
     (tie.spec
     current-requires
     physical-requires
-    number-of-requires
+    place-requires
     kind-requires
     owner-requires
     cast-result

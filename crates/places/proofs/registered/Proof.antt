@@ -9,9 +9,9 @@ use Rattle.laws.specs.Choice.{at}
 use Rattle.laws.specs.Search.{someBelow}
 use Rattle.model.specs.Sizes.{physicals}
 use Rattle.model.specs.Names.{ownerGuest}
-use Rattle.host.specs.Lead.{leadOf}
+use Rattle.host.specs.Lead.{leadOf, leadsAt}
 use Rattle.host.specs.View.{view}
-use Rattle.seek.specs.Leads.{leadsAt, sought}
+use Rattle.seek.specs.Leads.{sought}
 use Rattle.places.specs.Places.{registeredAt}
 use Rattle.places.proofs.Owners.{none-owns, one-owns}
 use borrow.Author.Needs.{needs}

@@ -5,7 +5,7 @@ use Rattle.laws.specs.Choice.{at}
 use Rattle.model.specs.Sizes.{addresses, stealth}
 use Rattle.host.specs.View.{view}
 use Rattle.places.specs.Places.{stealthCacheable}
-use Rattle.seek.proofs.Leading.{number-lead}
+use Rattle.host.proofs.Leads.{place-lead}
 use borrow.Author.Needs.{needs}
 use Rattle.places.proofs.stealth_cacheable.Statement.{statement}
 use Rattle.places.proofs.stealth_cacheable.Tie as tie
@@ -13,8 +13,8 @@ use Rattle.places.proofs.stealth_cacheable.Tie as tie
 entry-requires : tie.Need-entry-requires
 entry-requires c κs = search needs
 
-number-of-requires : tie.Need-number-of-requires
-number-of-requires c κs = search needs
+place-requires : tie.Need-place-requires
+place-requires c κs = search needs
 
 kind-requires : tie.Need-kind-requires
 kind-requires c κs = search needs
@@ -30,14 +30,14 @@ unfolding stealthCacheable
 returns c =
     let a = c .before .before .before .before .before .before .args in
     let s = view (a .h .now) in
-    rw (c .implies .ensures, c .before .cacheable .ensures, c .before .before .before .kind .ensures, c .before .before .before .before .number-of .ensures, c .before .before .before .before .before .entry .ensures, number-lead (at (s .shape .pages .entry) (addresses * a .m .0 + stealth)))
+    rw (c .implies .ensures, c .before .cacheable .ensures, c .before .before .before .kind .ensures, c .before .before .before .before .place .ensures, c .before .before .before .before .before .entry .ensures, place-lead (at (s .shape .pages .entry) (addresses * a .m .0 + stealth)))
 
 pub stealth-cacheable-spec : {M : Type 1} → statement M
 stealth-cacheable-spec =
     tie.close
     (tie.spec
     entry-requires
-    number-of-requires
+    place-requires
     kind-requires
     cacheable-requires
     implies-requires

@@ -8,8 +8,8 @@ use Rattle.seek.proofs.key_again.Tie as tie
 line-page-requires : tie.Need-line-page-requires
 line-page-requires c κs = search needs
 
-leads-at-requires : tie.Need-leads-at-requires
-leads-at-requires c κs = search needs
+leads-to-requires : tie.Need-leads-to-requires
+leads-to-requires c κs = search needs
 
 line-address-requires : tie.Need-line-address-requires
 line-address-requires c κs = search needs
@@ -19,9 +19,9 @@ implies-requires c κs = search needs
 
 returns : tie.Need-returns
 unfolding sought
-returns c = rw (c .implies .ensures, c .before .before .before .line-address .ensures, c .before .before .before .before .leads-at .ensures, c .before .before .before .before .before .line-page .ensures)
+returns c = rw (c .implies .ensures, c .before .before .before .line-address .ensures, c .before .before .before .before .leads-to .ensures, c .before .before .before .before .before .line-page .ensures)
 
 pub key-again-spec : {M : Type 1} → statement M
 key-again-spec =
     tie.close
-    (tie.spec line-page-requires leads-at-requires line-address-requires implies-requires returns)
+    (tie.spec line-page-requires leads-to-requires line-address-requires implies-requires returns)

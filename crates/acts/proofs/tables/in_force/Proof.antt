@@ -2,9 +2,10 @@
 -- Assumes nothing.
 use mathlib.Core.Path.{ap, _∙_}
 use Rattle.host.specs.View.{view}
+use Rattle.host.specs.Lead.{placeOf}
+use Rattle.host.proofs.Leads.{place-toward}
 use Rattle.model.specs.State.{table}
-use Rattle.asks.specs.Leads.{placeOf}
-use Rattle.asks.proofs.Tables.{place-toward, table-below}
+use Rattle.asks.proofs.Tables.{table-below}
 use borrow.Author.Needs.{needs}
 use Rattle.acts.proofs.tables.in_force.Statement.{statement}
 use Rattle.acts.proofs.tables.in_force.Tie as tie

@@ -4,8 +4,8 @@ use mathlib.Core.Path.{ap, _∙_}
 use Rattle.laws.specs.Choice.{at}
 use Rattle.host.specs.declared.Lead.{Lead}
 use Rattle.host.specs.View.{view}
-use Rattle.cache.specs.Sets.{leadsTo}
-use Rattle.cache.proofs.Sets.{leads}
+use Rattle.host.specs.Lead.{leadsAt}
+use Rattle.host.proofs.Leads.{leads-at}
 use borrow.Author.Needs.{needs}
 use Rattle.cache.proofs.lines.is_of.Statement.{statement}
 use Rattle.cache.proofs.lines.is_of.Tie as tie
@@ -21,8 +21,8 @@ returns c =
     let l = c .before in
     let s = l .before in
     let a = s .args in
-    c .leads-to .ensures ∙ ap (λ (x : Lead). leadsTo x (a .p .0)) (l .line-page .ensures)
-    ∙ leads (at (view (a .h .now) .shape .cache .linePage) (a .i)) (a .p .0) (s .pre)
+    c .leads-to .ensures ∙ ap (λ (x : Lead). leadsAt x (a .p .0)) (l .line-page .ensures)
+    ∙ leads-at (at (view (a .h .now) .shape .cache .linePage) (a .i)) (a .p .0) (s .pre)
 
 pub is-of-spec : {M : Type 1} → statement M
 is-of-spec = tie.close (tie.spec line-page-requires leads-to-requires returns)

@@ -1,11 +1,11 @@
--- A lead is to page p if its page is p.
+-- A page leads to itself alone, and nowhere to no page.
 -- Assumes nothing.
 use mathlib.Core.Path.{sym, ap}
 use Rattle.host.specs.declared.Lead.{Lead}
-use Rattle.cache.specs.Sets.{leadsTo}
+use Rattle.host.specs.Lead.{leadsAt}
 use borrow.Author.Needs.{needs}
-use Rattle.cache.proofs.leads_to.Statement.{statement}
-use Rattle.cache.proofs.leads_to.Tie as tie
+use Rattle.host.proofs.leads_to.Statement.{statement}
+use Rattle.host.proofs.leads_to.Tie as tie
 
 enum-known-l : tie.Need-enum-known-l
 enum-known-l c = search needs
@@ -15,8 +15,9 @@ enum-told c = search needs
 
 returns : tie.Need-returns
 returns c =
+    let g = c .before .before .before .l .given in
     let a = c .before .before .before .before .before .args in
-    sym (ap (λ (l : Lead). leadsTo l (a .p .0)) (c .before .before .before .l .given .1))
+    sym (ap (λ (l : Lead). leadsAt l (a .p .0)) (g .1))
 
 returns-2 : tie.Need-returns-2
 returns-2 c = search needs
