@@ -47,6 +47,7 @@ module _ {s : State} (v : Valid s) {b : Book} (a : Agrees s b) where
       record {
         kept =
             record {
+              valid = t .valid;
               pinned = t .counted;
               whole = all-pages (t .valid);
               places = one-place (t .valid);

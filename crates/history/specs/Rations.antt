@@ -12,6 +12,7 @@ use Rattle.laws.specs.Search.{countBelow, sumBelow}
 use Rattle.model.specs.Sizes.{guests, physicals, pages, hostPages, firstHostPage, firstFreePage}
 use Rattle.model.specs.Names.{ownerGuest, kindData}
 use Rattle.model.specs.State.{Shape, State, present}
+use Rattle.model.specs.Valid.{Valid}
 use Rattle.model.specs.Step.{numberOf, valueOf}
 use Rattle.model.specs.Run.{run}
 use Rattle.history.specs.Past.{Past, Book, kindIn, valueIn, pinsIn, unpinsIn, bookAfter, pastAfter, valuesAfter}
@@ -56,6 +57,7 @@ pub record OnePlace (h : Shape) (p : ℕ) : Type 0 where
 
 -- Of a state t to which a past led from the state s, which agrees with the book b.
 pub record Kept (b : Book) (s : State) (past : Past) (t : State) : Type 0 where
+  pub valid : Valid t
   -- Pages: a guest owns what it owned and what it pinned, less what it unpinned. The guests' pages, the host's and those that the map marks are
   -- all; each is in one of these places, and a guest's at one of its physical addresses.
   pub pinned : (g : ℕ) → g < guests → owned (t .shape) g + unpinsIn b past g ≡ owned (s .shape) g + pinsIn b past g

@@ -104,6 +104,9 @@ noLineAt i s = eqb (at (s .shape .cache .linePage) i) 0
 abbrev pub historyIs : ℕ → ℕ → State → Bool
 historyIs k h s = eqb (at (s .shape .cache .history) k) h
 
+abbrev pub slotIs : ℕ → ℕ → ℕ → State → Bool
+slotIs i va p s = eqb (at (s .shape .tlb .slotAddress) i) va && eqb (at (s .shape .tlb .slotPage) i) (suc p)
+
 abbrev pub slotEmpty : ℕ → State → Bool
 slotEmpty i s = eqb (at (s .shape .tlb .slotPage) i) 0
 
@@ -223,6 +226,18 @@ further =
     ∷ row (does (hcall callUnpin 1 0) ++ gets 7 (unpin 1))
     -- a shared page that is given back is cacheable again
     ∷ ending (nine ++ maps 1 1 ++ deletes 0 ++ deletes 1 ++ unpins 1) (λ s. markIs 8 1 s && memoryIs 8 0 s && valid? s)
+    -- and not before
+    ∷ ending (nine ++ maps 1 1 ++ deletes 1) (markIs 8 0)
+    -- the TLB gets the pair, and is emptied or loses it though the table or the page is the same
+    ∷ ending nine (slotIs 0 0 8)
+    ∷ ending (pins 1 0 ++ hides 1) (slotIs 7 7 8)
+    ∷ ending (nine ++ turnsTo 0) (slotEmpty 0)
+    ∷ ending (nine ++ changesTable 0) (slotEmpty 0)
+    ∷ ending (nine ++ maps 0 1) (λ s. slotEmpty 0 s && noLineAt 0 s && memoryIs 8 300 s)
+    -- a line that is taken out leaves the history
+    ∷ ending (nine ++ deletes 0) (historyIs 0 1)
+    -- the lowest page that is free, not the next
+    ∷ ending (pins 1 0 ++ pins 2 0 ++ unpins 1 ++ pins 3 0) (λ s. eqb (at (s .shape .pages .physical) 3) 9)
     ∷ []
 
 -- ---- journals: their headers, their lengths at the edges, and the nine records whole
