@@ -1,4 +1,4 @@
--- A valid state and a book agree.
+-- A state and a book agree: asked of valid states.
 -- Assumes nothing.
 use mathlib.Core.Path.{_≡_}
 use mathlib.Core.Bool.{_&&_, not}
