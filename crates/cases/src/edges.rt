@@ -43,6 +43,23 @@ fn edge(h: &mut Host, bytes: &[u8], length: usize, room: usize) {
     run(h, bytes, length, &mut answers, room);
 }
 
+fn short(h: &mut Host, bytes: &[u8; JOURNAL]) {
+    edge(h, bytes, 0, ROOM);
+    edge(h, bytes, 7, ROOM);
+    edge(h, bytes, 8, 0);
+    edge(h, bytes, 15, 0);
+    edge(h, bytes, 16, 8);
+    edge(h, bytes, 16, 7);
+    edge(h, bytes, 23, 8);
+}
+
+fn long(h: &mut Host, bytes: &[u8; JOURNAL]) {
+    edge(h, bytes, 32776, ROOM);
+    edge(h, bytes, 32783, ROOM);
+    edge(h, bytes, 32783, 32767);
+    edge(h, bytes, 32784, ROOM);
+}
+
 pub(crate) fn edges(h: &mut Host) {
     say(b"edges of a journal\n");
     host::fresh(h);
@@ -51,15 +68,6 @@ pub(crate) fn edges(h: &mut Host) {
     bytes[1] = b'P';
     bytes[2] = b'J';
     bytes[3] = 1;
-    edge(h, &bytes, 0, ROOM);
-    edge(h, &bytes, 7, ROOM);
-    edge(h, &bytes, 8, 0);
-    edge(h, &bytes, 15, 0);
-    edge(h, &bytes, 16, 8);
-    edge(h, &bytes, 16, 7);
-    edge(h, &bytes, 23, 8);
-    edge(h, &bytes, 32776, ROOM);
-    edge(h, &bytes, 32783, ROOM);
-    edge(h, &bytes, 32783, 32767);
-    edge(h, &bytes, 32784, ROOM);
+    short(h, &bytes);
+    long(h, &bytes);
 }

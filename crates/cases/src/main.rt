@@ -54,6 +54,12 @@ fn pin(h: &mut Host, pa: u8) {
     call(h, 13, 4, pa, pa % 2);
 }
 
+// A data page pinned and mapped.
+fn page_at(h: &mut Host, pa: u8, va: u8) {
+    call(h, 13, 4, pa, 0);
+    new(h, va, pa);
+}
+
 // Control, another guest, which then runs.
 fn go(h: &mut Host, guest: u8) {
     let left = give(h, 11, 0, 0, 0);
@@ -63,20 +69,22 @@ fn go(h: &mut Host, guest: u8) {
     show::three(left, there, runs);
 }
 
+fn page_and_set(h: &Host) {
+    show::page(h, 8);
+    show::set(h, 0);
+}
+
 // A page at 0, written; then at 1 too.
 fn mapped_twice(h: &mut Host) {
     say(b"a page at 0, then at 1 too\n");
     host::fresh(h);
-    call(h, 13, 4, 1, 0);
-    new(h, 0, 1);
+    page_at(h, 1, 0);
     write(h, 0, 44, 1);
     read(h, 0);
     read(h, 1);
-    show::page(h, 8);
-    show::set(h, 0);
+    page_and_set(h);
     new(h, 1, 1);
-    show::page(h, 8);
-    show::set(h, 0);
+    page_and_set(h);
     read(h, 1);
     show::set(h, 1);
 }
@@ -85,20 +93,15 @@ fn mapped_twice(h: &mut Host) {
 fn third_takes_out(h: &mut Host) {
     say(b"pages at 0, 8 and 16\n");
     host::fresh(h);
-    call(h, 13, 4, 1, 0);
-    new(h, 0, 1);
-    call(h, 13, 4, 2, 0);
-    new(h, 8, 2);
-    call(h, 13, 4, 3, 0);
-    new(h, 16, 3);
+    page_at(h, 1, 0);
+    page_at(h, 2, 8);
+    page_at(h, 3, 16);
     write(h, 0, 70, 0);
     read(h, 0);
     read(h, 8);
-    show::set(h, 0);
-    show::page(h, 8);
+    page_and_set(h);
     read(h, 16);
-    show::set(h, 0);
-    show::page(h, 8);
+    page_and_set(h);
 }
 
 fn fourteen_pins(h: &mut Host) {
@@ -121,6 +124,11 @@ fn all_pages(h: &mut Host) {
     fourteen_pins(h);
     other_guests(h);
     one(b"free", host::free_pages(h) as u64);
+    one_more(h);
+}
+
+// Refused; then one page is given back.
+fn one_more(h: &mut Host) {
     pin(h, 15);
     let there = give(h, 8, 2, 0, 0);
     let runs = give(h, 12, 0, 0, 0);

@@ -121,11 +121,11 @@ impl Cases {
         self.write(0, 70);
         self.read(0);
         self.read(8);
-        self.set(0);
         self.page(8);
+        self.set(0);
         self.read(16);
-        self.set(0);
         self.page(8);
+        self.set(0);
     }
 
     fn all_pages(&mut self) {
