@@ -28,7 +28,7 @@ use Rattle.output.specs.Output.{linesOf, printed}
 use Rattle.output.specs.Promises.{takenIn, Prints}
 
 module _ (s : State) (j b : List ℕ) where
-  form-passes : journalRefusal s j b ≡ 0 → formRefusal (hasHeader j) (length j) (length b) ≡ 0
+  pub form-passes : journalRefusal s j b ≡ 0 → formRefusal (hasHeader j) (length j) (length b) ≡ 0
   unfolding journalRefusal
   form-passes = split (valid? s) (λ e. rw e (λ z. z)) (λ e. rw e (λ z. absurd (omega arith)))
 

@@ -14,7 +14,7 @@ use Rattle.laws.specs.Choice.{at}
 use Rattle.laws.specs.Search.{firstFrom, firstBelow, allBelow}
 use Rattle.laws.proofs.Cases.{below?}
 use Rattle.laws.proofs.Tests.{eq⇔}
-use Rattle.laws.proofs.Search.{all⇔, firstBelow-is, firstBelow-found}
+use Rattle.laws.proofs.Search.{all⇔, firstBelow-is, firstBelow-found, firstBelow-least}
 use Rattle.print.specs.Text.{Page, typed, typedAll, digit, digits, placesOf, decimalOf, valueOfDigits}
 
 -- ---- powers
@@ -99,6 +99,14 @@ digits-say (suc k) n =
     let c : 48 + d - 48 ≡ d = omega arith in
     (λ i. c i * 10 ^ length-digits k n i + digits-say k n i)
     ∙ sym (ap (λ (x : ℕ). n % x) (pow-suc 10 k ∙ mul-comm (10 ^ k) 10) ∙ mod-mul n (omega arith) (omega (arith, power-more k)))
+
+-- a number below 10 ^ k has no more than k digits
+pub length-decimal : (n k : ℕ) → n < 10 ^ suc k → length (decimalOf n) ≤ suc k
+unfolding placesOf
+length-decimal n k h =
+    let f : ℕ → Bool = λ i. ltb n (10 ^ suc i) in
+    let l = firstBelow-least f (suc n) k (lt-ltb n (10 ^ suc k) h) in
+    omega (arith, length-digits (placesOf n) n)
 
 enough : (n : ℕ) → n < 10 ^ placesOf n
 unfolding placesOf

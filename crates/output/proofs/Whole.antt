@@ -1,0 +1,97 @@
+-- An output buffer as long as the program's holds all that is printed.
+-- Assumes nothing.
+use mathlib.Core.Path.{_≡_, ap, subst, _∙_}
+use mathlib.Core.Bool.{not}
+use mathlib.Core.List.{List, [], _∷_, _++_}
+use Prim.Native.Nat.{ℕ, zero, suc, _+_, _*_, _^_, _≤_, _<_}
+use native.Mathlib.Omega.{arith}
+use lib.Dec.{eqb, ltb}
+use lib.ListN.{length, drop, length-append}
+use Rattle.laws.specs.Choice.{at}
+use Rattle.laws.proofs.Cases.{pick-both}
+use Rattle.model.specs.Sizes.{answerBytes, recordLimit}
+use Rattle.model.specs.Records.{wordAt}
+use Rattle.model.specs.State.{State}
+use Rattle.model.specs.Fresh.{fresh}
+use Rattle.model.specs.Valid.{valid?}
+use Rattle.model.specs.Run.{run}
+use Rattle.model.specs.Journal.{Report, recordsOf, pasted, reported, reportOf, hasHeader, wholeRecords, formRefusal, journalRefusal, After, journal}
+use Rattle.model.proofs.Journal.{either, accepted-and-refused}
+use Rattle.host.specs.Cut.{Small}
+use Rattle.journal.proofs.Reports.{form-fits}
+use Rattle.print.specs.Text.{Page, page, typedAll, decimalOf}
+use Rattle.print.proofs.Typing.{typed-fits}
+use Rattle.print.proofs.Decimal.{length-decimal}
+use Rattle.output.specs.Output.{titleLine, refusedWord, doneWord, cutWord, numberThen, space, lineEnd, recordLine, recordLines, refusedLine, cutLine, doneLine, reportLines, printed}
+use Rattle.output.specs.Promises.{Prints}
+use Rattle.output.proofs.Room.{form-passes}
+
+number-long : (n x k : ℕ) → n < 10 ^ suc k → length (numberThen n x) ≤ suc k + 1
+number-long n x k h = omega (arith, length-append (decimalOf n) (x ∷ []), length-decimal n k h)
+
+-- 4, 3 and 10 digits, two spaces and the line's end
+line-long : (n a v : ℕ) → n < 10 ^ 4 → a < 10 ^ 3 → v < 10 ^ 10 → length (recordLine n a v) ≤ 20
+line-long n a v h k l =
+    omega (arith, length-append (numberThen n space ++ numberThen a space) (numberThen v lineEnd), length-append (numberThen n space) (numberThen a space), number-long n space 3 h, number-long a space 2 k, number-long v lineEnd 9 l)
+
+lines-long : (n : ℕ) (c : List ℕ) → Small c → n ≤ recordLimit → length (recordLines n c) ≤ 20 * n
+unfolding recordLines
+lines-long zero c s h = omega arith
+lines-long (suc n) c s h =
+    let i = answerBytes * n in
+    let r = lines-long n c s (omega arith) in
+    let l = line-long (n + 1) (at c i) (wordAt c (i + 4)) (omega arith) (omega (arith, s i)) (omega (arith, s (i + 4), s (i + 4 + 1), s (i + 4 + 2), s (i + 4 + 3))) in
+    omega (arith, length-append (recordLines n c) (recordLine (n + 1) (at c i) (wordAt c (i + 4))))
+
+cut-long : (n : ℕ) → n < 10 ^ 1 → length (cutLine n) ≤ 6
+cut-long n h =
+    pick-both (λ l. length l ≤ 6) (eqb n 0) (λ e. omega arith) (λ e. omega (arith, length-append cutWord (numberThen n lineEnd), number-long n lineEnd 0 h))
+
+refused-long : (n k : ℕ) → n < 10 ^ suc k → length (refusedLine n) ≤ suc k + 9
+refused-long n k h = omega (arith, length-append refusedWord (numberThen n lineEnd), number-long n lineEnd k h)
+
+done-long : (a r : ℕ) → a < 10 ^ 4 → r < 10 ^ 4 → length (doneLine a r) ≤ 23
+done-long a r h k =
+    omega (arith, length-append (doneWord ++ numberThen a space) (refusedLine r), length-append doneWord (numberThen a space), number-long a space 3 h, refused-long r 3 k)
+
+-- as the program has it
+abbrev pub outputBytes : ℕ
+outputBytes = 20 * recordLimit + 64
+
+report-long : (r : Report) (c : List ℕ) → Small c → r .taken ≤ recordLimit → r .leftOver < 10 ^ 1 → r .accepted + r .refused ≡ r .taken
+    → length (reportLines r c) ≤ outputBytes
+report-long r c s h k e =
+    let ls = recordLines (r .taken) c in
+    let ds = doneLine (r .accepted) (r .refused) in
+    omega (arith, length-append (titleLine ++ ls ++ cutLine (r .leftOver)) ds, length-append (titleLine ++ ls) (cutLine (r .leftOver)), length-append titleLine ls, lines-long (r .taken) c s h, cut-long (r .leftOver) k, done-long (r .accepted) (r .refused) (omega arith) (omega arith))
+
+module _ (s : State) (j b : List ℕ) where
+  refusal-small : journalRefusal s j b < 10 ^ 2
+  unfolding journalRefusal formRefusal
+  refusal-small =
+      let t = ltb recordLimit (wholeRecords (length j)) in
+      let u = ltb (length b) (answerBytes * wholeRecords (length j)) in
+      pick-both (λ n. n < 10 ^ 2) (not (valid? s)) (λ e. omega arith)
+      (λ e. pick-both (λ n. n < 10 ^ 2) (not (hasHeader j)) (λ f. omega arith)
+      (λ f. pick-both (λ n. n < 10 ^ 2) t (λ g. omega arith) (λ g. pick-both (λ n. n < 10 ^ 2) u (λ i. omega arith) (λ i. omega arith))))
+
+  pub printed-most : Small (journal s j b .buffer) → length (printed (journal s j b)) ≤ outputBytes
+  printed-most =
+      either (λ (a : After). reportOf (a .verdict) .accepted + reportOf (a .verdict) .refused ≡ reportOf (a .verdict) .taken → Small (a .buffer) → length (printed a) ≤ outputBytes) s j b
+      (λ e q c. let f = form-fits j b (form-passes s j b e) in
+      report-long (reported j (run s (recordsOf j) .answers)) (pasted (run s (recordsOf j) .answers) b) c (f .1) (omega arith) q)
+      (λ n q c. omega (arith, refused-long (journalRefusal s j b) 1 refusal-small))
+      (accepted-and-refused s j b)
+
+-- what was typed, where the text has its room
+whole-text : (d xs : List ℕ) (n : ℕ) (e : List ℕ) → length xs ≤ outputBytes → outputBytes ≤ length d → page e n ≡ typedAll (page d 0) xs
+    → (n ≡ length xs) × (e ≡ xs ++ drop (length xs) d)
+whole-text d xs n e m h f =
+    let q = f ∙ typed-fits d xs (omega arith) in
+    (ap (λ (p : Page). p .place) q, ap (λ (p : Page). p .bytes) q)
+
+-- The output buffer starts with all that is printed, and its rest stays. That the answers are bytes is what their type says.
+pub printed-whole : (j b d : List ℕ) {n : ℕ} {c e : List ℕ} → Prints j b d n c e → Small c → outputBytes ≤ length d
+    → (n ≡ length (printed (journal fresh j b))) × (e ≡ printed (journal fresh j b) ++ drop (length (printed (journal fresh j b))) d)
+printed-whole j b d {n} {c} {e} w s h =
+    whole-text d (printed (journal fresh j b)) n e (printed-most fresh j b (subst Small (w .answers) s)) h (w .output)
