@@ -1,7 +1,7 @@
 -- Rule 6: one pass over the entries that remembers where each page was seen finds a page at two addresses exactly if there is one.
 -- Assumes nothing.
-use mathlib.Core.Path.{_≡_, refl, sym, ap, _∙_, subst}
-use mathlib.Core.Logic.{_≢_, _⊎_, inl, inr, ⊎-elim}
+use mathlib.Core.Path.{_≡_, sym, ap, _∙_, subst}
+use mathlib.Core.Logic.{_≢_}
 use mathlib.Core.Bool.{Bool, true, false, _&&_, not}
 use mathlib.Core.List.{List}
 use Prim.Native.Nat.{ℕ, suc, _+_, _*_, _/_, _%_, _≤_, _<_}
@@ -9,18 +9,17 @@ use native.Mathlib.Numerals.{add-one}
 use native.Mathlib.Omega.{arith}
 use lib.Dec.{ltb, eqb}
 use lib.ListN.{length, set, length-set, replicate, length-replicate, getD-replicate}
-use borrow.Author.Tests.{lt-ltb, eq-eqb}
-use Rattle.laws.specs.Choice.{pick, at, _⇔_}
+use Rattle.laws.specs.Choice.{at, _⇔_}
 use Rattle.laws.specs.Search.{allBelow}
-use Rattle.laws.proofs.Cases.{split, same?, below?, pick-yes, pick-not, pick-both}
+use Rattle.laws.proofs.Cases.{split, same?, below?, pick-yes, pick-not}
 use Rattle.laws.proofs.Tests.{eq⇔, lt⇔, and⇔, imp⇔, not⇔, as⇔, fails, not-so}
 use Rattle.laws.proofs.Search.{all⇔}
 use Rattle.laws.proofs.Lists.{at-past, at-same, at-other}
-use Rattle.laws.proofs.Grid.{place-of, place-below, row-of, column-of, row-below, column-below}
+use Rattle.laws.proofs.Grid.{place-below, row-of, column-of, row-below, column-below}
 use Rattle.model.specs.Sizes.{pages, addresses, stealth}
 use Rattle.model.specs.Names.{kindData, kindTable}
 use Rattle.model.specs.State.{State, lead, isPage, nowhere}
-use Rattle.model.specs.Rules.{Maps, Rule6}
+use Rattle.model.specs.Rules.{Maps}
 use Rattle.model.specs.RuleTests.{rule6?}
 use Rattle.model.specs.Valid.{Sized}
 use Rattle.model.proofs.RuleTests.{lead-page, lead-holds, rule6⇔}

@@ -10,7 +10,7 @@ use Rattle.model.specs.Records.{Bytes}
 use Rattle.model.specs.Valid.{Valid}
 use Rattle.model.specs.Step.{numberOf, valueOf, step}
 use Rattle.model.specs.Step as model
-use Rattle.model.specs.Run.{Ran, run, runBy}
+use Rattle.model.specs.Run.{run, runBy}
 use Rattle.keeps.proofs.Fresh.{fresh-valid}
 use Rattle.history.specs.Past.{Book, freshBook, pastAfter, valuesAfter}
 use Rattle.history.specs.Agrees.{Agrees}
@@ -18,7 +18,6 @@ use Rattle.history.specs.Rations.{Kept}
 use Rattle.history.proofs.Fresh.{fresh-agrees}
 use Rattle.history.proofs.Rations.{rations}
 use Rattle.steps.specs.declared.Answer.{Answer}
-use Rattle.steps.specs.Promises.{answerTo}
 use Rattle.steps.specs.Turns.{answerFrom}
 use Rattle.steps.proofs.Running.{from-to}
 use Rattle.guarantee.specs.Guarantee.{Folds}

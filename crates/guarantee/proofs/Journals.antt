@@ -1,9 +1,8 @@
 -- Demand 3 of `journal::run`: from any valid state with a book that agrees with it, and from the fresh machine.
 -- Assumes nothing.
-use mathlib.Core.Path.{_≡_, refl, sym, ap, subst, _∙_}
+use mathlib.Core.Path.{_≡_, sym, ap, subst, _∙_}
 use mathlib.Core.List.{List, [], map}
 use Prim.Native.Nat.{ℕ}
-use native.Mathlib.Omega.{arith}
 use lib.ListN.{length}
 use Rattle.laws.proofs.Lists.{length-listOf}
 use Rattle.model.specs.State.{State}
@@ -18,7 +17,7 @@ use Rattle.model.proofs.Run.{run-length}
 use Rattle.keeps.proofs.Fresh.{fresh-valid}
 use Rattle.history.specs.Past.{Book, freshBook, pastAfter, valuesAfter}
 use Rattle.history.specs.Agrees.{Agrees}
-use Rattle.history.specs.Rations.{Kept, Rations}
+use Rattle.history.specs.Rations.{Kept}
 use Rattle.history.proofs.Fresh.{fresh-agrees}
 use Rattle.history.proofs.Journals.{journal-rations}
 use Rattle.host.specs.View.{view}
@@ -27,7 +26,7 @@ use Rattle.journal.specs.declared.Verdict.the-variants.{Done}
 use Rattle.journal.specs.Promises.{Runs}
 use Rattle.journal.proofs.Reports.{played-journal}
 use Rattle.journal.proofs.Prefix.{run-valid, run-form, all-taken}
-use Rattle.guarantee.specs.Guarantee.{numbersIn, valuesIn, pastIn, Guarantee}
+use Rattle.guarantee.specs.Guarantee.{numbersIn, valuesIn, Guarantee}
 use Rattle.guarantee.proofs.Reading.{run-below, numbers-back, values-back}
 
 module _ {s : State} (v : Valid s) {b : Book} (a : Agrees s b) (j buffer : List ℕ) (w : Bytes j) {r : Report} {t : State} {c : List ℕ}

@@ -2,7 +2,7 @@
 -- Assumes nothing.
 use mathlib.Core.Path.{_≡_, refl, sym, ap, ap₂, _∙_}
 use mathlib.Core.List.{List, [], _∷_, _++_, map, append-assoc}
-use Prim.Native.Nat.{ℕ, zero, suc, _+_, _*_, _<_}
+use Prim.Native.Nat.{ℕ, suc, _+_, _*_, _<_}
 use native.Mathlib.Omega.{arith}
 use lib.ListN.{length, drop}
 use lib.Seq.{drop-append-add, getD-drop}
@@ -11,7 +11,7 @@ use Rattle.laws.specs.Search.{listFrom, listOf}
 use Rattle.laws.proofs.Lists.{listFrom-shift, listOf-same}
 use Rattle.laws.proofs.Search.{Each}
 use Rattle.model.specs.Sizes.{answerBytes, valueBound}
-use Rattle.model.specs.State.{State, present}
+use Rattle.model.specs.State.{State}
 use Rattle.model.specs.Records.{Action, silent, read, readHyper, write, writeHyper, new, newSm, del, switch, lswitch, hcall, retCtrl, chmod, pin, unpin, Bytes, wordAt}
 use Rattle.model.specs.Valid.{Valid}
 use Rattle.model.specs.Step.{Answer, numberOf, valueOf, value, Outcome, step}

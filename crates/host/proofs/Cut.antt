@@ -4,11 +4,8 @@ use mathlib.Core.Path.{_≡_, refl, sym, ap, _∙_}
 use mathlib.Core.List.{List, [], _∷_, _++_}
 use Prim.Native.Nat.{ℕ, zero, suc, _+_, _-_, _≤_, _<_}
 use native.Mathlib.Nat.{zero-add, add-assoc, not-suc-le-zero}
-use mathlib.Core.Logic.{_⊎_, ⊎-elim}
 use native.Mathlib.Omega.{arith}
-use Rattle.laws.specs.Choice.{at}
 use Rattle.laws.proofs.Cases.{below?}
-use Rattle.model.specs.Sizes.{byteBound}
 use Rattle.model.specs.Records.{wordAt}
 use Rattle.host.specs.Cut.{cut, begin, size, part, edit, total, setWord, Small}
 use lib.ListN.{length, getD, take, drop, set, length-take, length-drop, List·getD-eq-default}

@@ -5,7 +5,7 @@ use mathlib.Core.Bool.{Bool, true, _&&_}
 use mathlib.Core.List.{List, [], _∷_}
 use Prim.Native.Nat.{ℕ, _<_}
 use lib.Dec.{eqb}
-use lib.ListN.{length, getD}
+use lib.ListN.{getD}
 use Rattle.laws.specs.Search.{seekFrom, allIn}
 use Rattle.laws.proofs.Tests.{eq⇔, and⇔}
 use Rattle.laws.proofs.Search.{at-entry}

@@ -1,25 +1,18 @@
 -- The view of bytes, field by field: what a read and a store at a place of a field is of the state, and that the state fixes every byte.
 -- Assumes nothing.
 use mathlib.Core.Path.{_≡_, refl, sym, ap, _∙_}
-use mathlib.Core.Bool.{Bool, true, false, _&&_, not, false≢true}
+use mathlib.Core.Bool.{true, false, not, false≢true}
 use mathlib.Core.List.{List, [], _∷_}
-use Prim.Native.Nat.{ℕ, zero, suc, _+_, _*_, _/_, _%_, _^_, _≤_, _<_}
+use Prim.Native.Nat.{ℕ, zero, suc, _+_, _≤_, _<_}
 use native.Mathlib.Omega.{arith}
-use lib.Dec.{ltb, eqb}
-use lib.ListN.{length, getD, set, length-set}
-use lib.Seq.{set-out, getD-set-same}
+use lib.Dec.{eqb}
+use lib.ListN.{set}
 use borrow.Author.Tests.{le-ltb}
 use Rattle.laws.specs.Choice.{at}
-use Rattle.laws.proofs.Lists.{at-same, at-other}
 use Rattle.laws.proofs.Tests.{and⇔, lt⇔, true⇔}
-use Rattle.model.specs.Sizes.{pages, lines, byteBound}
-use Rattle.model.specs.State.{Values, State}
-use Rattle.model.specs.Records.{wordAt}
-use Rattle.model.specs.Valid.{Sized}
-use Rattle.host.specs.Cut.{cut, begin, size, part, edit, total, words, setWord, Small}
-use Rattle.host.specs.View.{sizes, bytes, long, stateOf, view, Whole, listed, columnsOf, column, withColumns, put}
-use Rattle.host.proofs.Cut.{cut-set, cut-get, cut-get-out, cut-set-out, cut-set-word, cut-get-word, cut-length, cut-inj, cut-bytes}
-use Rattle.host.proofs.Words.{length-words, words-set, words-get, words-out, words-inj, two-words}
+use Rattle.host.specs.Cut.{cut, begin, size, part, edit, total}
+use Rattle.host.specs.View.{sizes, bytes, stateOf, view, listed, columnsOf, column, withColumns, put}
+use Rattle.host.proofs.Cut.{cut-set, cut-get, cut-get-out, cut-set-out}
 
 -- ---- fields that are lists of bytes
 

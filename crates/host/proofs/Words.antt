@@ -1,14 +1,12 @@
 -- Numbers of four bytes in a list: stored, read back, and fixed by each other.
 -- Assumes nothing.
-use mathlib.Core.Path.{_≡_, refl, sym, ap, _∙_}
+use mathlib.Core.Path.{_≡_, refl, sym, ap}
 use mathlib.Core.List.{List, [], _∷_}
-use Prim.Native.Nat.{ℕ, zero, suc, _+_, _-_, _*_, _/_, _%_, _^_, _≤_, _<_}
+use Prim.Native.Nat.{ℕ, zero, suc, _+_, _-_, _*_, _/_, _%_, _≤_, _<_}
 use native.Mathlib.Nat.{not-suc-le-zero, le-of-suc-le-suc, add-assoc}
 use native.Mathlib.Omega.{arith}
-use lib.ListN.{length, getD, take, drop, set, List·getD-eq-default}
+use lib.ListN.{length, getD, drop, set, List·getD-eq-default}
 use lib.Seq.{getD-drop}
-use Rattle.laws.specs.Choice.{at}
-use Rattle.model.specs.Sizes.{byteBound}
 use Rattle.model.specs.Records.{wordAt}
 use Rattle.host.specs.Cut.{words, setWord, Small}
 

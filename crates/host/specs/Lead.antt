@@ -2,9 +2,8 @@
 -- Assumes nothing.
 use mathlib.Core.Bool.{Bool, false}
 use Prim.Native.Nat.{ℕ, suc}
-use lib.Dec.{ltb, eqb}
+use lib.Dec.{eqb}
 use Rattle.laws.specs.Choice.{pick}
-use Rattle.model.specs.Sizes.{pages}
 use Rattle.model.specs.State.{lead, nowhere, isPage}
 use Rattle.host.specs.declared.Ma.{Ma}
 use Rattle.host.specs.declared.Lead.{Lead}

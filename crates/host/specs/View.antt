@@ -1,14 +1,14 @@
 -- The bytes of a state: where each field stands (docs/STATE.md), and the state that they are.
 -- Assumes nothing.
 use mathlib.Core.Path.{_≡_}
-use mathlib.Core.Bool.{Bool, true, false, _&&_, not}
+use mathlib.Core.Bool.{Bool, _&&_, not}
 use mathlib.Core.List.{List, [], _∷_}
-use Prim.Native.Nat.{ℕ, zero, suc, _+_, _*_, _^_, _<_}
+use Prim.Native.Nat.{ℕ, zero, suc, _+_, _*_, _^_}
 use lib.Dec.{eqb, ltb}
-use lib.ListN.{length, getD, set}
-use Rattle.laws.specs.Choice.{pick, at}
+use lib.ListN.{length, set}
+use Rattle.laws.specs.Choice.{at}
 use Rattle.model.specs.Sizes.{guests, physicals, pages, addresses, lines, sets, slots, byteBound}
-use Rattle.model.specs.State.{Pages, Guests, Cache, Tlb, Shape, Values, State}
+use Rattle.model.specs.State.{State}
 use Rattle.model.specs.Records.{wordAt}
 use Rattle.model.specs.Parts.{withPages, shaped, setActive, setMode}
 use Rattle.host.specs.Cut.{cut, part, edit, total, words, Small}

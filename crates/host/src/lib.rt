@@ -63,12 +63,12 @@ pub use values::unmark_free;
 pub use values::whole;
 ghost use mathlib.Core.Path.{_≡_};
 ghost use mathlib.Core.Bool.{true};
-ghost use Prim.Native.Nat.{ℕ, _+_, _*_, _<_, _≤_};
+ghost use Prim.Native.Nat.{_+_, _*_, _<_};
 ghost use lib.Dec.{eqb};
 ghost use Rattle.laws.specs.Choice.{at};
 ghost use Rattle.model.specs.Sizes.{addresses, physicals};
 ghost use Rattle.host.specs.Cut.{begin, size};
-ghost use Rattle.host.specs.View.{sizes, bytes, view, Whole, listed, column, put, ownerField, kindField, cacheableField, entryField, physicalField, currentField, callField, callAField, callBField, lineAddressField, linePageField, historyField, slotAddressField, slotPageField};
+ghost use Rattle.host.specs.View.{sizes, view, listed, column, put, ownerField, kindField, cacheableField, entryField, physicalField, currentField, callField, callAField, callBField, lineAddressField, linePageField, historyField, slotAddressField, slotPageField};
 ghost use Rattle.host.specs.Lead.{leadOf, heldOf, placeOf, leadsAt};
 
 pub type Host = [u8; SIZE];

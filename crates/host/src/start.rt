@@ -19,7 +19,7 @@ use super::layout::KIND_AT;
 use super::layout::MODE_AT;
 use super::layout::PHYSICAL_AT;
 ghost use mathlib.Core.Path.{_≡_};
-ghost use Prim.Native.Nat.{ℕ, _*_, _≤_, _<_};
+ghost use Prim.Native.Nat.{_*_, _≤_, _<_};
 ghost use lib.ListN.{length};
 ghost use Rattle.model.specs.Sizes.{guests, physicals};
 ghost use Rattle.model.specs.Fresh.{freshOwner, freshKind, freshPhysical, fresh};

@@ -5,7 +5,6 @@ use mathlib.Core.Bool.{Bool, true, false, not}
 use Prim.Native.Nat.{ℕ, _*_, _≤_, _<_}
 use native.Mathlib.Omega.{arith}
 use lib.Dec.{ltb}
-use Rattle.laws.specs.Choice.{pick}
 use Rattle.laws.proofs.Tests.{false⇔, lt⇔, not-so}
 use Rattle.model.specs.Sizes.{recordLimit, answerBytes}
 use Rattle.model.specs.Journal.{wholeRecords, formRefusal}

@@ -1,21 +1,20 @@
 -- A journal's first k records: answers and state after them are those of the journal that has these records alone.
 -- Assumes nothing.
-use mathlib.Core.Path.{_≡_, refl, sym, ap, subst, _∙_}
+use mathlib.Core.Path.{_≡_, sym, ap, _∙_}
 use mathlib.Core.Bool.{true}
-use mathlib.Core.List.{List, [], _∷_, _++_, append-assoc}
-use Prim.Native.Nat.{ℕ, zero, suc, _+_, _*_, _-_, _≤_, _<_}
+use mathlib.Core.List.{List, [], _++_, append-assoc}
+use Prim.Native.Nat.{ℕ, _+_, _*_, _-_, _≤_}
 use native.Mathlib.Omega.{arith}
-use lib.ListN.{length, take, drop, getD}
-use lib.Seq.{take-add, take-at, drop-at, take-take, length-take-le, getD-take, ext-getD}
-use Rattle.laws.specs.Choice.{at}
+use lib.ListN.{length, take, drop}
+use lib.Seq.{take-add, take-at, drop-at, take-take, length-take-le, getD-take}
 use Rattle.laws.specs.Search.{listFrom, listOf}
 use Rattle.laws.proofs.Lists.{length-listOf, listFrom-append, listOf-same}
-use Rattle.model.specs.Sizes.{recordBytes, answerBytes, headerBytes, recordLimit}
+use Rattle.model.specs.Sizes.{recordBytes, answerBytes, headerBytes}
 use Rattle.model.specs.State.{State}
 use Rattle.model.specs.Valid.{valid?}
 use Rattle.model.specs.Step.{Answer, step}
-use Rattle.model.specs.Run.{Ran, run, runBy}
-use Rattle.model.specs.Journal.{taken, wholeRecords, recordAt, recordsOf, hasHeader, formRefusal, written, pasted, journalRefusal, ran, reported, played, journal, After}
+use Rattle.model.specs.Run.{Ran, run}
+use Rattle.model.specs.Journal.{taken, recordAt, recordsOf, hasHeader, written, journalRefusal, ran, reported, played, journal, After}
 use Rattle.model.proofs.Run.{andThen, run-append, run-length}
 use Rattle.model.proofs.Journal.{either}
 use Rattle.steps.proofs.Storing.{length-written, written-more}

@@ -1,33 +1,31 @@
 -- What code makes of a journal is the model's: turned away by its form or its state, or run and reported.
 -- Assumes nothing.
 use mathlib.Core.Path.{_≡_, refl, sym, ap, subst, _∙_}
-use mathlib.Core.Bool.{Bool, true, false, not, true≢false}
+use mathlib.Core.Bool.{Bool, true, false, true≢false}
 use mathlib.Core.Logic.{_≢_}
 use mathlib.Core.List.{List}
-use Prim.Native.Nat.{ℕ, _+_, _*_, _-_, _/_, _≤_, _<_}
+use Prim.Native.Nat.{ℕ, _+_, _*_, _-_, _≤_}
 use native.Mathlib.Omega.{arith}
 use lib.ListN.{length}
-use Rattle.laws.specs.Choice.{pick}
 use Rattle.laws.proofs.Cases.{split, below?, pick-yes, pick-not}
-use Rattle.laws.proofs.Tests.{lt⇔}
-use Rattle.model.specs.Sizes.{recordBytes, answerBytes, headerBytes, recordLimit}
+use Rattle.model.specs.Sizes.{answerBytes, headerBytes, recordLimit}
 use Rattle.model.specs.State.{State}
 use Rattle.model.specs.Valid.{valid?}
 use Rattle.model.specs.Step.{Answer}
 use Rattle.model.specs.Run.{run}
 use Rattle.model.specs.Run as model
-use Rattle.model.specs.Journal.{taken, leftOver, wholeRecords, recordsOf, hasHeader, formRefusal, acceptedIn, refusedIn, pasted, Report, reportOf, ran, turnedAway, After, journalRefusal, played, reported, away, journal}
+use Rattle.model.specs.Journal.{taken, leftOver, wholeRecords, recordsOf, hasHeader, formRefusal, acceptedIn, refusedIn, pasted, Report, reportOf, ran, turnedAway, After, journalRefusal, played, away, journal}
 use Rattle.model.specs.Journal as asked
 use Rattle.model.proofs.Journal.{either, accepted-and-refused}
 use Rattle.steps.specs.declared.Ran.{Ran}
 use Rattle.steps.specs.declared.Ran.the-variants.{Took}
 use Rattle.steps.specs.declared.Ran.the-variants as code
-use Rattle.steps.specs.Parts.{runnable, recordsFrom, tookOf, RunsFirst}
+use Rattle.steps.specs.Parts.{runnable, recordsFrom, tookOf}
 use Rattle.steps.specs.Parts as part
 use Rattle.steps.proofs.Running.{whole-runnable}
 use Rattle.journal.specs.declared.Verdict.{Verdict}
 use Rattle.journal.specs.declared.Verdict.the-variants.{Done, Refused}
-use Rattle.journal.specs.Promises.{reportTo, verdictTo, verdictFrom, Runs}
+use Rattle.journal.specs.Promises.{verdictTo, verdictFrom, Runs}
 use Rattle.journal.proofs.Header.{header⇔}
 use Rattle.journal.proofs.Limits.{no-journal, too-long, no-room}
 

@@ -9,7 +9,7 @@ use host::STEALTH_LINE;
 use host::STEALTH_SET;
 use host::Va;
 ghost use mathlib.Core.Path.{_≡_};
-ghost use Prim.Native.Nat.{_+_, _*_, _/_, _%_, _<_};
+ghost use Prim.Native.Nat.{_+_, _/_, _%_, _<_};
 ghost use Rattle.model.specs.State.{table};
 ghost use Rattle.model.specs.RuleTests.{stealthPage, rule9?};
 ghost use Rattle.host.specs.View.{view};

@@ -1,7 +1,6 @@
 -- A journal that was run has room for its answers; what is typed of its verdict and its buffer is what the model prints.
 -- Assumes nothing.
-use mathlib.Core.Path.{_≡_, refl, sym, ap, _∙_}
-use mathlib.Core.Bool.{true, false}
+use mathlib.Core.Path.{_≡_, ap, _∙_}
 use mathlib.Core.List.{List}
 use Prim.Native.Nat.{ℕ, _*_, _≤_}
 use native.Mathlib.Omega.{arith}
@@ -12,9 +11,9 @@ use Rattle.model.specs.Sizes.{answerBytes}
 use Rattle.model.specs.State.{State}
 use Rattle.model.specs.Fresh.{fresh}
 use Rattle.model.specs.Valid.{valid?}
-use Rattle.model.specs.Step.{Answer, step}
+use Rattle.model.specs.Step.{step}
 use Rattle.model.specs.Run.{run}
-use Rattle.model.specs.Journal.{taken, recordAt, recordsOf, hasHeader, formRefusal, journalRefusal, After, journal}
+use Rattle.model.specs.Journal.{taken, recordAt, recordsOf, hasHeader, formRefusal, journalRefusal, journal}
 use Rattle.model.specs.Journal as model
 use Rattle.model.proofs.Run.{run-length}
 use Rattle.model.proofs.Journal.{either}

@@ -3,7 +3,6 @@ use host::Host;
 use journal::Report;
 use journal::Verdict;
 ghost use mathlib.Core.Path.{_≡_};
-ghost use mathlib.Core.List.{_++_};
 ghost use Prim.Native.Nat.{_+_, _*_, _<_, _≤_};
 ghost use lib.ListN.{length};
 ghost use Rattle.model.specs.Sizes.{byteBound, answerBytes};

@@ -17,7 +17,7 @@ use host::RUNNING;
 use host::STEALTH;
 use host::Va;
 ghost use mathlib.Core.Path.{_≡_};
-ghost use Prim.Native.Nat.{_+_, _*_, _/_, _%_, _<_};
+ghost use Prim.Native.Nat.{_+_, _/_, _%_, _<_};
 ghost use Rattle.model.specs.RuleTests.{stored, fits};
 ghost use Rattle.host.specs.View.{view};
 ghost use Rattle.places.specs.Places.{heldBy, heldOnce, registeredAt, currentTable, stealthCacheable, callKept, pageOf, pageKept};

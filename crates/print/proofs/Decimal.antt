@@ -1,17 +1,17 @@
 -- A number in decimal: its powers of ten, how many digits it has, and that its digits say it.
 -- Assumes nothing.
-use mathlib.Core.Path.{_≡_, refl, sym, ap, subst, _∙_}
+use mathlib.Core.Path.{_≡_, refl, sym, ap, _∙_}
 use mathlib.Core.Bool.{Bool}
 use mathlib.Core.List.{List, [], _∷_}
 use Prim.Native.Nat.{ℕ, zero, suc, _+_, _*_, _-_, _/_, _%_, _^_, _≤_, _<_}
 use native.Mathlib.Omega.{arith}
 use native.Mathlib.Nat.{pow-suc, mul-comm, mod-one, mod-eq-of-lt}
 use borrow.Author.Tests.{lt-ltb, le-ltb, ltb-true}
-use lib.Dec.{eqb, ltb}
+use lib.Dec.{ltb}
 use lib.ListN.{length}
 use lib.Arith.{mod-mul}
 use Rattle.laws.specs.Choice.{at}
-use Rattle.laws.specs.Search.{firstFrom, firstBelow, allBelow}
+use Rattle.laws.specs.Search.{firstFrom, firstBelow}
 use Rattle.laws.proofs.Cases.{below?}
 use Rattle.laws.proofs.Tests.{eq⇔}
 use Rattle.laws.proofs.Search.{all⇔, firstBelow-is, firstBelow-found, firstBelow-least}

@@ -1,16 +1,15 @@
 -- Bytes typed one after another: text after text, the buffer's length, and where the text fits.
 -- Assumes nothing.
-use mathlib.Core.Path.{_≡_, refl, sym, ap, subst, _∙_}
+use mathlib.Core.Path.{_≡_, refl, sym, ap, _∙_}
 use mathlib.Core.List.{List, [], _∷_, _++_, append-assoc, append-nil}
 use Prim.Native.Nat.{ℕ, suc, _+_, _≤_, _<_}
 use native.Mathlib.Omega.{arith}
 use native.Mathlib.Numerals.{add-one}
 use borrow.Author.Tests.{lt-ltb, le-ltb}
-use lib.Dec.{ltb}
 use lib.ListN.{length, set, drop, length-set, length-append, drop-of-length-le}
 use lib.Seq.{drop-cons, set-append-seam, set-out}
 use Rattle.laws.specs.Choice.{pick, at}
-use Rattle.laws.proofs.Cases.{below?, pick-both}
+use Rattle.laws.proofs.Cases.{below?}
 use Rattle.print.specs.Text.{Page, page, typed, typedAll}
 
 module _ (b : List ℕ) (i x : ℕ) where

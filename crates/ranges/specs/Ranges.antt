@@ -1,6 +1,6 @@
 -- What rule 10 tests at one place of a state: numbers in range, empty places zero.
 -- Assumes nothing.
-use mathlib.Core.Bool.{Bool, _&&_, true}
+use mathlib.Core.Bool.{Bool, _&&_}
 use Prim.Native.Nat.{ℕ, suc, _+_, _*_, _/_, _%_}
 use lib.Dec.{ltb, eqb}
 use Rattle.laws.specs.Choice.{at, _⇒_}

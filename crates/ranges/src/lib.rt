@@ -10,7 +10,7 @@ use host::OWNER_GUEST;
 use host::Pa;
 use host::Va;
 ghost use mathlib.Core.Path.{_≡_};
-ghost use Prim.Native.Nat.{_+_, _*_, _/_, _%_, _<_};
+ghost use Prim.Native.Nat.{_+_, _/_, _%_, _<_};
 ghost use Rattle.host.specs.View.{view};
 ghost use Rattle.seek.specs.Leads.{placed};
 ghost use Rattle.ranges.specs.Ranges.{pageInRange, placeInRange, guestInRange, lineInRange, setInRange, slotInRange, entryInRange};

@@ -1,10 +1,10 @@
 -- Rule 10 is its tests at each place: those of the map of free pages and of the values hold of every state that comes from bytes.
 -- Assumes nothing.
-use mathlib.Core.Path.{_≡_, ap, _∙_}
-use mathlib.Core.Bool.{Bool, _&&_}
-use Prim.Native.Nat.{ℕ, suc, _+_, _*_, _/_, _%_, _<_}
+use mathlib.Core.Path.{_≡_}
+use mathlib.Core.Bool.{_&&_}
+use Prim.Native.Nat.{ℕ, suc, _*_, _/_, _%_, _<_}
 use native.Mathlib.Omega.{arith}
-use lib.Dec.{ltb, eqb}
+use lib.Dec.{ltb}
 use Rattle.laws.specs.Choice.{at, _⇔_}
 use Rattle.laws.specs.Search.{allBelow}
 use Rattle.laws.proofs.Tests.{eq⇔, lt⇔, and⇔, imp⇔, as⇔}
@@ -15,8 +15,8 @@ use Rattle.model.specs.Names.{ownerGuest, kindTable, running}
 use Rattle.model.specs.State.{State}
 use Rattle.model.specs.History.{histories}
 use Rattle.model.specs.Records.{rowOf, kindOfCall}
-use Rattle.model.specs.Rules.{Fits, Rule10}
-use Rattle.model.specs.RuleTests.{fits, rule10?}
+use Rattle.model.specs.Rules.{Fits}
+use Rattle.model.specs.RuleTests.{rule10?}
 use Rattle.model.specs.Valid.{Sized}
 use Rattle.model.proofs.RuleTests.{within⇔, rule10⇔}
 use Rattle.host.proofs.Inverse.{Bounded}

@@ -1,7 +1,6 @@
 -- At most one answer, and one content of each lent buffer, meets a promise; a refusal leaves every byte as it was.
 -- Assumes nothing.
 use mathlib.Core.Path.{_≡_, refl, sym, ap, _∙_}
-use mathlib.Core.Bool.{Bool, true, false}
 use mathlib.Core.List.{List}
 use Prim.Native.Nat.{ℕ}
 use native.Mathlib.Omega.{arith}
@@ -12,9 +11,9 @@ use Rattle.keeps.proofs.Accepted.{stepped, judged, acted}
 use Rattle.host.specs.View.{view, Whole}
 use Rattle.host.proofs.Inverse.{view-inj}
 use Rattle.steps.specs.declared.Answer.{Answer}
-use Rattle.steps.specs.declared.Answer.the-variants.{Done, Refused}
+use Rattle.steps.specs.declared.Answer.the-variants.{Refused}
 use Rattle.steps.specs.declared.Ran.{Ran}
-use Rattle.steps.specs.Promises.{answerTo, Gives, Steps}
+use Rattle.steps.specs.Promises.{answerTo, Steps}
 use Rattle.steps.specs.Parts.{Runs}
 
 pub one-step : (s : State) (l : List ℕ) {a b : Answer} {x y : List ℕ} → Whole x → Whole y → Steps s l a (view x) → Steps s l b (view y)

@@ -5,13 +5,13 @@ use mathlib.Core.Bool.{Bool, true, false, true≢false}
 use mathlib.Core.Logic.{_≢_}
 use mathlib.Core.List.{List}
 use mathlib.Core.Option.{Option, none, some}
-use Prim.Native.Nat.{ℕ, _<_}
+use Prim.Native.Nat.{ℕ}
 use native.Mathlib.Omega.{arith}
 use lib.Dec.{eqb}
 use borrow.Author.Tests.{eqb-true, eqb-false}
 use Rattle.laws.specs.Choice.{pick}
 use Rattle.laws.proofs.Cases.{pick-yes}
-use Rattle.laws.proofs.Tests.{eq⇔, lt⇔, not-so}
+use Rattle.laws.proofs.Tests.{lt⇔}
 use Rattle.model.specs.Sizes.{pages}
 use Rattle.model.specs.State.{State, isPage, mapped, here, present}
 use Rattle.model.specs.Records.{Action, silent, read, readHyper, write, writeHyper, new, newSm, del, switch, lswitch, hcall, retCtrl, chmod, pin, unpin, InRange, Bytes, decode}

@@ -3,14 +3,12 @@
 use mathlib.Core.Path.{_≡_, refl, sym, ap, subst, _∙_}
 use mathlib.Core.Bool.{true, false}
 use mathlib.Core.List.{List, [], _∷_, _++_}
-use Prim.Native.Nat.{ℕ, zero, suc, _+_, _*_, _-_, _/_, _≤_, _<_}
+use Prim.Native.Nat.{ℕ, suc, _+_, _*_, _-_, _/_, _≤_, _<_}
 use native.Mathlib.Omega.{arith}
 use native.Mathlib.Numerals.{add-one}
 use lib.Dec.{eqb}
-use lib.ListN.{length, take, drop, length-take}
-use lib.Seq.{getD-take, getD-drop}
-use Rattle.laws.specs.Choice.{pick, at}
-use Rattle.laws.specs.Search.{listFrom, listOf}
+use lib.ListN.{length, take, drop}
+use Rattle.laws.specs.Search.{listFrom}
 use Rattle.laws.proofs.Cases.{below?, pick-both, pick-yes, pick-not}
 use Rattle.laws.proofs.Tests.{lt⇔, not-so}
 use Rattle.laws.proofs.Lists.{length-listOf, listOf-more}
@@ -24,7 +22,7 @@ use Rattle.model.specs.Run.{Ran, runBy, run}
 use Rattle.model.specs.Journal.{pasted, acceptedIn}
 use Rattle.model.proofs.Valid.{valid⇔}
 use Rattle.model.proofs.Bytes.{part-bytes}
-use Rattle.model.proofs.Run.{andThen, run-append, run-length}
+use Rattle.model.proofs.Run.{run-append, run-length}
 use Rattle.keeps.proofs.Keeps.{judge-keeps, run-judges}
 use Rattle.steps.specs.Acting.{judged}
 use Rattle.steps.specs.Parts.{runnable, recordFrom, recordsFrom, tookOf, RunsFirst, Runs}

@@ -4,8 +4,8 @@ use mathlib.Core.Path.{_≡_, refl, sym, ap, _∙_}
 use mathlib.Core.List.{List, [], _∷_, _++_, append-assoc, append-nil}
 use Prim.Native.Nat.{ℕ, suc, _+_, _*_, _/_, _%_, _^_, _≤_}
 use native.Mathlib.Omega.{arith}
-use lib.ListN.{length, take, drop, set, length-append, length-drop, length-set, drop-of-length-le}
-use lib.Seq.{sets, sets-eq, slice, take-add, take-at, drop-at, drop-append-add, drop-drop, length-take-le}
+use lib.ListN.{length, drop, set, length-append, length-drop, length-set, drop-of-length-le}
+use lib.Seq.{sets, sets-eq, take-at, drop-append-add, drop-drop}
 use Rattle.model.specs.Sizes.{answerBytes, byteBound}
 use Rattle.model.specs.Records.{wordBytes}
 use Rattle.model.specs.Step.{Answer}

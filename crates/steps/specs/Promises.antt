@@ -9,7 +9,7 @@ use Rattle.model.specs.Step.{Outcome, done, refused, step}
 use Rattle.model.specs.Step as model
 use Rattle.steps.specs.declared.Answer.{Answer}
 use Rattle.steps.specs.declared.Answer.the-variants.{Done, Refused}
-use Rattle.steps.specs.Acting.{answered, performed, acted, judged}
+use Rattle.steps.specs.Acting.{answered, performed}
 
 -- the model's answers in code
 abbrev pub answerTo : model.Answer → Answer

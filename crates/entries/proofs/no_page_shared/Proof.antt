@@ -1,12 +1,10 @@
 -- Each page that was counted so far is remembered with its address; one that comes at another address ends the loop.
 -- Assumes nothing.
-use mathlib.Core.Path.{_≡_, refl, sym, _∙_, subst}
-use mathlib.Core.List.{List}
-use Prim.Native.Nat.{ℕ, suc, _+_, _*_, _/_, _%_, _≤_, _<_, _-_}
+use mathlib.Core.Path.{_≡_, sym, subst}
+use Prim.Native.Nat.{ℕ, _/_, _%_, _≤_, _-_}
 use native.Mathlib.Omega.{arith}
 use borrow.Author.Needs.{needs}
-use Rattle.laws.specs.Choice.{at}
-use Rattle.model.specs.Sizes.{pages, addresses}
+use Rattle.model.specs.Sizes.{addresses}
 use Rattle.host.specs.View.{view}
 use Rattle.entries.proofs.Shared.{entries, Seen, seen-start, seen-all, pass-clash, pass-more, counted-le, unshared⇔}
 use Rattle.entries.proofs.no_page_shared.Statement.{statement}

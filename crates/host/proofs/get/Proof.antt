@@ -1,6 +1,6 @@
 -- The byte that is read is the field's at that place; past its end it is 0.
 -- Assumes nothing.
-use mathlib.Core.Path.{_≡_, refl, sym, ap, _∙_}
+use mathlib.Core.Path.{ap, _∙_}
 use Prim.Native.Nat.{ℕ, _+_}
 use native.Mathlib.Omega.{arith}
 use Rattle.laws.specs.Choice.{at}

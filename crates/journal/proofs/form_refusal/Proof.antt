@@ -1,7 +1,6 @@
 -- The limits, one after another.
 -- Assumes nothing.
 use mathlib.Core.Path.{sym, _∙_}
-use native.Mathlib.Omega.{arith}
 use lib.ListN.{length}
 use Rattle.model.specs.Journal.{hasHeader}
 use Rattle.journal.proofs.Header.{header⇔}

@@ -1,7 +1,6 @@
 -- Turned away by its form, or run by `steps`.
 -- Assumes nothing.
 use mathlib.Core.Path.{sym, _∙_}
-use native.Mathlib.Omega.{arith}
 use Rattle.host.specs.View.{view}
 use Rattle.journal.proofs.Reports.{turned-by-form, turned-by-state, form-fits, took-taken, ran-took, ran-refused}
 use borrow.Author.Needs.{needs}

@@ -1,7 +1,5 @@
 -- By whether there is a stealth page.
 -- Assumes nothing.
-use mathlib.Core.Path.{_∙_, sym}
-use Prim.Native.Nat.{ℕ}
 use borrow.Author.Tests.{lt-ltb, le-ltb}
 use native.Mathlib.Omega.{arith}
 use Rattle.model.specs.Sizes.{pages}

@@ -1,6 +1,6 @@
 -- A page that is led to is tested; a line that leads nowhere must be empty.
 -- Assumes nothing.
-use mathlib.Core.Path.{_≡_, sym, ap, _∙_}
+use mathlib.Core.Path.{sym, ap, _∙_}
 use Prim.Native.Nat.{ℕ}
 use Rattle.laws.specs.Choice.{at}
 use Rattle.host.specs.View.{view}

@@ -1,6 +1,5 @@
 -- Way 0 by the stealth page of the table in force; way 1 and the history as they are at the start.
 -- Assumes nothing.
-use mathlib.Core.Path.{_∙_}
 use Rattle.host.specs.View.{view}
 use Rattle.lines.proofs.Stealth.{rule9-is}
 use borrow.Author.Needs.{needs}

@@ -1,7 +1,7 @@
 -- By whether there is a table in force.
 -- Assumes nothing.
-use mathlib.Core.Path.{ap, _∙_, sym}
-use Prim.Native.Nat.{ℕ, _+_, _*_}
+use mathlib.Core.Path.{ap, _∙_}
+use Prim.Native.Nat.{_+_, _*_}
 use native.Mathlib.Omega.{arith}
 use borrow.Author.Tests.{lt-ltb, le-ltb}
 use Rattle.laws.specs.Choice.{at}

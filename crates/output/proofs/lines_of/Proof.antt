@@ -1,10 +1,7 @@
 -- The report, or the refusal.
 -- Assumes nothing.
 use mathlib.Core.Path.{_≡_, sym, ap, _∙_}
-use Prim.Native.Nat.{ℕ, _*_, _≤_}
 use native.Mathlib.Omega.{arith}
-use lib.ListN.{length}
-use Rattle.model.specs.Sizes.{answerBytes}
 use Rattle.journal.specs.declared.Verdict.{Verdict}
 use Rattle.print.specs.Text.{page, typedAll}
 use Rattle.output.specs.Output.{linesOf}

@@ -1,10 +1,9 @@
 -- After i turns the lines of the first i records are typed.
 -- Assumes nothing.
-use mathlib.Core.Path.{_≡_, refl, sym, ap, _∙_}
-use Prim.Native.Nat.{ℕ, _+_, _*_, _-_, _≤_}
+use mathlib.Core.Path.{_≡_, ap, _∙_}
+use Prim.Native.Nat.{ℕ, _-_, _≤_}
 use native.Mathlib.Omega.{arith}
 use lib.ListN.{length}
-use Rattle.model.specs.Sizes.{answerBytes}
 use Rattle.print.specs.Text.{Page, page, typedAll}
 use Rattle.output.specs.Output.{recordLines}
 use Rattle.output.proofs.Lines.{no-lines, one-more}

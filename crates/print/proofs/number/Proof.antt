@@ -1,11 +1,10 @@
 -- What is left to type: the last i digits.
 -- Assumes nothing.
-use mathlib.Core.Path.{_≡_, refl, sym, ap, _∙_}
+use mathlib.Core.Path.{_≡_, sym, ap, _∙_}
 use Prim.Native.Nat.{ℕ, _-_, _<_}
 use native.Mathlib.Omega.{arith}
-use borrow.Author.Needs.{needs}
 use Rattle.print.specs.Text.{Page, page, typed, typedAll, digits, decimalOf}
-use Rattle.print.proofs.Typing.{typed-kept, ends}
+use Rattle.print.proofs.Typing.{typed-kept}
 use Rattle.print.proofs.Decimal.{typed-digit, no-digits}
 use Rattle.print.proofs.number.Statement.{statement}
 use Rattle.print.proofs.number.Tie as tie

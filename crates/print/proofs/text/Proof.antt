@@ -1,11 +1,10 @@
 -- What is left to type, after i bytes.
 -- Assumes nothing.
 use native.Mathlib.Omega.{arith}
-use Prim.Native.Nat.{ℕ, _+_, _-_, _≤_}
+use Prim.Native.Nat.{_+_, _-_, _≤_}
 use mathlib.Core.Path.{_≡_, refl, sym, ap, _∙_}
 use mathlib.Core.List.{[]}
 use lib.ListN.{length, drop, drop-of-length-le}
-use borrow.Author.Needs.{needs}
 use Rattle.print.specs.Text.{Page, page, typedAll}
 use Rattle.print.proofs.Typing.{typed-kept, typed-rest, ends}
 use Rattle.print.proofs.text.Statement.{statement}

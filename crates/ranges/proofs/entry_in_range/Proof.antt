@@ -1,8 +1,8 @@
 -- Each test is of what was read.
 -- Assumes nothing.
-use Prim.Native.Nat.{_+_, _*_, _/_, _%_}
+use Prim.Native.Nat.{_+_, _*_}
 use Rattle.laws.specs.Choice.{at}
-use Rattle.model.specs.Sizes.{addresses, physicals}
+use Rattle.model.specs.Sizes.{addresses}
 use Rattle.host.specs.View.{view}
 use Rattle.ranges.specs.Ranges.{entryInRange}
 use Rattle.seek.proofs.Leading.{placed-is}

@@ -1,8 +1,6 @@
 -- Each test is of what was read.
 -- Assumes nothing.
-use Prim.Native.Nat.{_+_, _*_, _/_, _%_}
 use Rattle.laws.specs.Choice.{at}
-use Rattle.model.specs.Sizes.{addresses, physicals}
 use Rattle.host.specs.View.{view}
 use Rattle.ranges.specs.Ranges.{lineInRange}
 use Rattle.seek.proofs.Leading.{placed-is}

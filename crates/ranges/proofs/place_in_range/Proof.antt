@@ -2,7 +2,7 @@
 -- Assumes nothing.
 use Prim.Native.Nat.{_+_, _*_, _/_, _%_}
 use Rattle.laws.specs.Choice.{at}
-use Rattle.model.specs.Sizes.{addresses, physicals}
+use Rattle.model.specs.Sizes.{physicals}
 use Rattle.host.specs.View.{view}
 use Rattle.ranges.specs.Ranges.{placeInRange}
 use Rattle.seek.proofs.Leading.{placed-is}

@@ -1,7 +1,6 @@
 -- Each arm answers for the test that it is named by.
 -- Assumes nothing.
-use mathlib.Core.Path.{_≡_, sym, ap, _∙_}
-use Prim.Native.Nat.{ℕ}
+use mathlib.Core.Path.{sym, ap, _∙_}
 use Rattle.host.specs.View.{view}
 use Rattle.rules.specs.declared.Test.{Test}
 use Rattle.rules.specs.Tests.{test}

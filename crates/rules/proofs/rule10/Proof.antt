@@ -1,6 +1,5 @@
 -- The test at each place; the map of free pages and the values are in range in any buffer.
 -- Assumes nothing.
-use mathlib.Core.Path.{_∙_}
 use Rattle.host.specs.View.{view}
 use Rattle.host.proofs.Inverse.{view-sized, view-bytes}
 use Rattle.rules.specs.Tests.{test, entryTest}

@@ -1,6 +1,5 @@
 -- The test at each physical address, and at each page.
 -- Assumes nothing.
-use mathlib.Core.Path.{_∙_}
 use Rattle.host.specs.View.{view}
 use Rattle.host.proofs.Inverse.{view-sized}
 use Rattle.rules.specs.Tests.{test}

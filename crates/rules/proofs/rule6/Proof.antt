@@ -1,6 +1,5 @@
 -- One pass over the entries, and the test of each table's stealth page.
 -- Assumes nothing.
-use mathlib.Core.Path.{_∙_}
 use Rattle.host.specs.View.{view}
 use Rattle.host.proofs.Inverse.{view-sized}
 use Rattle.rules.specs.Tests.{test}

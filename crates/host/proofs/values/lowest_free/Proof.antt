@@ -1,8 +1,6 @@
 -- The map's lowest page, or the number past the last, which leads nowhere.
 -- Assumes nothing.
 use mathlib.Core.Path.{sym, ap, _∙_}
-use Prim.Native.Nat.{ℕ}
-use native.Mathlib.Omega.{arith}
 use Rattle.model.specs.Checks.{lowestFree}
 use Rattle.host.specs.Lead.{toward}
 use Rattle.host.proofs.Leads.{toward-page, toward-none}

@@ -1,14 +1,12 @@
 -- After i turns the first i records are played.
 -- Assumes nothing.
-use mathlib.Core.Path.{_≡_, _∙_, refl, subst}
+use mathlib.Core.Path.{_≡_, subst}
 use Prim.Native.Nat.{ℕ, _+_, _*_, _-_, _≤_}
 use native.Mathlib.Omega.{arith}
-use lib.ListN.{length}
 use Rattle.model.specs.Sizes.{recordBytes}
 use Rattle.host.specs.View.{view}
-use Rattle.steps.specs.Turns.{Plays, Turns}
+use Rattle.steps.specs.Turns.{Plays}
 use Rattle.steps.proofs.Running.{none-played, played-length, turned-most, one-more}
-use borrow.Author.Needs.{needs}
 use Rattle.steps.proofs.part.play.Statement.{statement}
 use Rattle.steps.proofs.part.play.Tie as tie
 

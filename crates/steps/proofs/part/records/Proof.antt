@@ -1,6 +1,5 @@
 -- The smaller of two numbers; past the end there are none.
 -- Assumes nothing.
-use native.Mathlib.Omega.{arith}
 use Rattle.steps.proofs.Running.{none-runnable, room-runnable, whole-runnable}
 use borrow.Author.Needs.{needs}
 use Rattle.steps.proofs.part.records.Statement.{statement}
