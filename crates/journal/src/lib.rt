@@ -35,7 +35,7 @@ const ANSWER: usize = steps::ANSWER;
 const VERSION: u16 = 1;
 
 // Records that a journal may have.
-const LIMIT: usize = 4096;
+pub const LIMIT: usize = 4096;
 
 const NOT_VALID: u8 = 1;
 

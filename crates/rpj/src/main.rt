@@ -3,12 +3,12 @@ use libc::STDIN_FILENO;
 use libc::STDOUT_FILENO;
 
 // The header and one record more than a journal may have: of a longer input the rest decides nothing, since these are refused alike.
-const INPUT: usize = 8 + 8 * 4097;
+const INPUT: usize = reader::HEADER + reader::RECORD * (journal::LIMIT + 1);
 
-const ANSWERS: usize = 8 * 4096;
+const ANSWERS: usize = steps::ANSWER * journal::LIMIT;
 
 // The longest output: a line for each record, of at most 4, 3 and 10 digits, two spaces and its end; and 64 bytes for the others.
-const OUTPUT: usize = 20 * 4096 + 64;
+const OUTPUT: usize = 20 * journal::LIMIT + 64;
 
 fn main() {
     let mut input = [0u8; INPUT];
