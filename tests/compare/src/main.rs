@@ -1,5 +1,5 @@
 //! The proved host against the second program: everything; the comparison's own test;
-//! a run with one byte of ours spoiled, which must fail; a journal by profile and seed.
+//! runs with one byte of ours spoiled, which must stop there; a journal by profile and seed.
 
 mod blind;
 mod crowd;
@@ -21,22 +21,26 @@ use second::hex::to_hex;
 
 use events::Events;
 use journals::Journal;
+use programs::Program;
 use tally::Tally;
 use task::{Item, Task};
 
-const USAGE: &str =
-    "usage: compare PROBE [RPJ] | self-test PROBE [RPJ] | spoiled PROBE | journal PROFILE SEED";
+/// START is the script that starts PROBE and RPJ.
+const USAGE: &str = "usage: compare START PROBE [RPJ] | self-test START PROBE [RPJ] | \
+                     spoiled START PROBE | journal PROFILE SEED";
 
 fn main() -> ExitCode {
     let words: Vec<String> = std::env::args().skip(1).collect();
     let words: Vec<&str> = words.iter().map(String::as_str).collect();
     let outcome = match words[..] {
         ["journal", profile, seed] => show(profile, seed),
-        ["self-test", probe] => self_test::run(Path::new(probe), None),
-        ["self-test", probe, rpj] => self_test::run(Path::new(probe), Some(Path::new(rpj))),
-        ["spoiled", probe] => self_test::spoiled(Path::new(probe)),
-        [probe] => everything(Path::new(probe), None),
-        [probe, rpj] => everything(Path::new(probe), Some(Path::new(rpj))),
+        ["self-test", start, probe] => self_test::run(program(start, probe), None),
+        ["self-test", start, probe, rpj] => {
+            self_test::run(program(start, probe), Some(program(start, rpj)))
+        }
+        ["spoiled", start, probe] => self_test::spoiled(program(start, probe)),
+        [start, probe] => everything(program(start, probe), None),
+        [start, probe, rpj] => everything(program(start, probe), Some(program(start, rpj))),
         _ => Err(USAGE.into()),
     };
     match outcome {
@@ -46,6 +50,10 @@ fn main() -> ExitCode {
             ExitCode::FAILURE
         }
     }
+}
+
+fn program<'a>(start: &'a str, path: &'a str) -> Program<'a> {
+    Program { start: Path::new(start), path: Path::new(path) }
 }
 
 fn show(profile: &str, seed: &str) -> Result<(), String> {
@@ -65,7 +73,7 @@ const WALKED: [(&str, u64); 8] = [
     ("noise", 1),
 ];
 
-fn everything(probe: &Path, rpj: Option<&Path>) -> Result<(), String> {
+fn everything(probe: Program, rpj: Option<Program>) -> Result<(), String> {
     let start = Instant::now();
     let mut tally = Tally::default();
     let journals = journals::all();
@@ -114,32 +122,56 @@ fn too_few(tally: &Tally, printed: Option<usize>) -> Vec<String> {
     short.map(|(what, count, least)| format!("{count} {what}, not {least}")).collect()
 }
 
+/// A byte of a task's result.
+#[derive(Clone, Copy, PartialEq)]
+struct Spot {
+    task: usize,
+    byte: usize,
+}
+
+/// Why a run stopped: at a difference, or for anything else, which is at no spot.
+struct Stop {
+    at: Option<Spot>,
+    text: String,
+}
+
+impl From<String> for Stop {
+    fn from(text: String) -> Stop {
+        Stop { at: None, text }
+    }
+}
+
+impl From<Stop> for String {
+    fn from(stop: Stop) -> String {
+        stop.text
+    }
+}
+
 /// All tasks in one process of `probe`, each result against the second program's.
-/// One result may have its last byte spoiled first.
+/// One byte of one result may be spoiled first.
 fn same(
-    probe: &Path,
+    probe: Program,
     items: &[Item],
     tally: &mut Tally,
-    spoiled: Option<usize>,
-) -> Result<(), String> {
+    spoiled: Option<Spot>,
+) -> Result<(), Stop> {
     programs::probe(probe, items, |i, mut ours| {
-        if let (true, Some(last)) = (spoiled == Some(i), ours.last_mut()) {
-            *last ^= 1;
+        if let Some(spot) = spoiled.filter(|spot| spot.task == i) {
+            ours[spot.byte] ^= 1;
         }
         let Item { profile, seed, task } = &items[i];
         tally.note(task, &ours);
-        match difference::of_results(task, &ours, &task.expected()) {
-            None => Ok(()),
-            Some(text) => {
-                let first = first_record(probe, task).unwrap_or_default();
-                Err(format!("difference: profile {profile}, seed {seed}, task {i}: {text}{first}"))
-            }
-        }
+        let second = task.expected();
+        let Some(text) = difference::of_results(task, &ours, &second) else { return Ok(()) };
+        let byte = ours.iter().zip(&second).take_while(|(a, b)| a == b).count();
+        let first = first_record(probe, task).unwrap_or_default();
+        let text = format!("difference: profile {profile}, seed {seed}, task {i}: {text}{first}");
+        Err(Stop { at: Some(Spot { task: i, byte }), text })
     })
 }
 
 /// A record after which results differ, with none before it in the journal's beginning up to it, in hex.
-fn first_record(probe: &Path, task: &Task) -> Option<String> {
+fn first_record(probe: Program, task: &Task) -> Option<String> {
     let Task::Run { machine, journal, buffer } = task else { return None };
     let differs = |n: usize| {
         let journal = journal[..journal.len().min(8 + 8 * n)].to_vec();
@@ -164,19 +196,22 @@ fn first_record(probe: &Path, task: &Task) -> Option<String> {
 }
 
 /// What differs in one task by itself.
-fn differs(probe: &Path, item: Item) -> Option<String> {
+fn differs(probe: Program, item: Item) -> Option<String> {
     let mut found = None;
     let items = [item];
     let _ = programs::probe(probe, &items, |_, ours| {
         let task = &items[0].task;
         found = difference::of_results(task, &ours, &task.expected());
-        Ok(())
+        Ok::<(), String>(())
     });
     found
 }
 
 /// Each journal in a process of `rpj`; gives how many there were.
-fn print_all<'a>(rpj: &Path, journals: impl Iterator<Item = &'a Journal>) -> Result<usize, String> {
+fn print_all<'a>(
+    rpj: Program,
+    journals: impl Iterator<Item = &'a Journal>,
+) -> Result<usize, String> {
     let mut printed = 0;
     for Journal { profile, seed, bytes } in journals {
         let piece = if seed % 8 < 2 { 1000 } else { bytes.len().max(1) };

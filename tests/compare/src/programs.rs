@@ -10,17 +10,25 @@ use crate::task::Item;
 /// Before each piece of input, so that a read can come back with less than it asked for.
 const PAUSE: Duration = Duration::from_micros(50);
 
+/// A program that rt built, and the script that starts such programs on any machine.
+#[derive(Clone, Copy)]
+pub struct Program<'a> {
+    pub start: &'a Path,
+    pub path: &'a Path,
+}
+
 /// Does all tasks in one process of `probe`; each result is looked at as it comes.
-pub fn probe(
-    program: &Path,
+pub fn probe<E: From<String>>(
+    program: Program,
     items: &[Item],
-    mut look: impl FnMut(usize, Vec<u8>) -> Result<(), String>,
-) -> Result<(), String> {
+    mut look: impl FnMut(usize, Vec<u8>) -> Result<(), E>,
+) -> Result<(), E> {
     let mut child = started(program)?;
-    let input = child.stdin.take().ok_or("no standard input")?;
-    let mut output = BufReader::new(child.stdout.take().ok_or("no standard output")?);
+    let input = child.stdin.take().ok_or_else(|| "no standard input".to_string())?;
+    let output = child.stdout.take().ok_or_else(|| "no standard output".to_string())?;
+    let mut output = BufReader::new(output);
     // However this ends, `output` is closed in it: then probe ends, and so does the writing.
-    let outcome = std::thread::scope(|scope| {
+    let outcome: Result<(), E> = std::thread::scope(|scope| {
         // A write that fails shows as a result that is missing.
         scope.spawn(move || {
             let mut input = BufWriter::new(input);
@@ -30,11 +38,11 @@ pub fn probe(
             let mut ours = vec![0; item.task.result_size()];
             if output.read_exact(&mut ours).is_err() {
                 let Item { profile, seed, .. } = item;
-                return Err(format!("{profile} {seed}: probe has no result"));
+                return Err(format!("{profile} {seed}: probe has no result").into());
             }
             look(i, ours)?;
         }
-        at_end(output)
+        Ok(at_end(output)?)
     });
     if outcome.is_err() {
         let _ = child.kill();
@@ -44,7 +52,7 @@ pub fn probe(
     if status.success() {
         Ok(())
     } else {
-        Err(format!("probe ended with {status}"))
+        Err(format!("probe ended with {status}").into())
     }
 }
 
@@ -56,7 +64,7 @@ fn at_end(mut output: impl Read) -> Result<(), String> {
 }
 
 /// What `rpj` prints for a journal, which comes in pieces of so many bytes.
-pub fn rpj(program: &Path, journal: &[u8], piece: usize) -> Result<Vec<u8>, String> {
+pub fn rpj(program: Program, journal: &[u8], piece: usize) -> Result<Vec<u8>, String> {
     let mut child = started(program)?;
     let mut input = child.stdin.take().ok_or("no standard input")?;
     let mut output = child.stdout.take().ok_or("no standard output")?;
@@ -79,10 +87,11 @@ pub fn rpj(program: &Path, journal: &[u8], piece: usize) -> Result<Vec<u8>, Stri
     }
 }
 
-fn started(program: &Path) -> Result<std::process::Child, String> {
-    Command::new(program)
+fn started(program: Program) -> Result<std::process::Child, String> {
+    Command::new(program.start)
+        .arg(program.path)
         .stdin(Stdio::piped())
         .stdout(Stdio::piped())
         .spawn()
-        .map_err(|e| format!("{}: {e}", program.display()))
+        .map_err(|e| format!("{}: {e}", program.start.display()))
 }

@@ -1,11 +1,10 @@
 //! The comparison itself: results with one byte changed must be seen.
 
-use std::path::Path;
-
 use crate::journals::{self, Journal};
+use crate::programs::Program;
 use crate::tally::Tally;
 use crate::task::Item;
-use crate::{difference, plan, programs, same};
+use crate::{difference, plan, programs, same, Spot};
 
 /// A few tasks of each form.
 fn items() -> Vec<Item> {
@@ -17,7 +16,7 @@ fn items() -> Vec<Item> {
     items
 }
 
-pub fn run(probe: &Path, rpj: Option<&Path>) -> Result<(), String> {
+pub fn run(probe: Program, rpj: Option<Program>) -> Result<(), String> {
     let items = items();
     let mut seen = 0;
     programs::probe(probe, &items, |i, mut ours| {
@@ -47,7 +46,7 @@ pub fn run(probe: &Path, rpj: Option<&Path>) -> Result<(), String> {
 }
 
 /// Each byte of a text changed, its last one left out, one added.
-fn texts(rpj: &Path) -> Result<usize, String> {
+fn texts(rpj: Program) -> Result<usize, String> {
     let journal = journals::journal("lengths", 37);
     let second = second::program_output(&journal);
     let second = second.as_bytes();
@@ -71,8 +70,24 @@ fn texts(rpj: &Path) -> Result<usize, String> {
     }
 }
 
-/// Fails as a whole run does, for one byte of one result.
-pub fn spoiled(probe: &Path) -> Result<(), String> {
+/// A whole run has no difference, and with one byte of one result changed it stops at that very byte;
+/// whatever else it stops at, or for, is an error here.
+pub fn spoiled(probe: Program) -> Result<(), String> {
     let items = items();
-    same(probe, &items, &mut Tally::default(), Some(items.len() / 2))
+    same(probe, &items, &mut Tally::default(), None)?;
+    for task in [0, items.len() / 2, items.len() - 1] {
+        let size = items[task].task.result_size();
+        for byte in [0, size / 2, size - 1] {
+            let spot = Spot { task, byte };
+            let what = format!("task {task}: byte {byte} was changed, and");
+            match same(probe, &items, &mut Tally::default(), Some(spot)) {
+                Err(stop) if stop.at == Some(spot) => println!("{what} the run stopped there"),
+                Err(stop) => {
+                    return Err(format!("{what} the run stopped elsewhere: {}", stop.text))
+                }
+                Ok(()) => return Err(format!("{what} the run did not stop")),
+            }
+        }
+    }
+    Ok(())
 }
