@@ -6,6 +6,7 @@ from pathlib import Path
 # The repository, or a tree that .ci/tests made.
 ROOT = Path(sys.argv[1]) if len(sys.argv) > 1 else Path(__file__).resolve().parent.parent
 complaints = []
+sys.stdout.reconfigure(encoding="utf-8")
 
 
 def complain(text):
@@ -104,13 +105,15 @@ class Function:
             brace = re.compile(r"[{;]").search(re.sub(r"\[[^\[\]{}]*\]", lambda m: "[" + "_" * (len(m.group()) - 2) + "]", text[end : end + 4000]))
             brace = end + brace.start() if brace else len(text) - 1
             between = text[end:brace]
-            clause = re.search(r"\b(requires|ensures)\s*$", between)
+            clause = re.search(r"\b(requires|ensures)(?:\s+\w+)?\s*$", between)
             kind = re.match(r"\s*->\s*(.*)", between[: clause.start()] if clause else between, re.S)
             self.result = kind[1].strip() if kind else self.result
             end = closed(text, brace) if text[brace] == "{" else brace + 1
             if not clause:
                 break
             self.contract[clause[1]].append(text[brace + 1 : end - 1].strip())
+        if re.search(r"\b(requires|ensures|decreases|where|ghost|proof)\b", self.result + between):
+            complain(f"{file}: {self.name}: a head that the checks do not read")
         self.body, self.start, self.end = text[brace:end], head.start(), end
 
     @staticmethod

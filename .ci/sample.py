@@ -1,0 +1,204 @@
+"""A small tree with nothing wrong in it, for .ci/tests: each file's text."""
+TREE = {
+    "crates.txt": "# all\nlaws:\nmodel: laws\nhistory: laws model\nhost: laws model\nsteps: model host\nration: host steps\nrpj: host steps\n",
+    "README.md": """
+One theorem, `one-step` of crates/steps/proofs/Answers.antt, whole:
+
+    pub one-step : (s : State) (l : List ℕ) {a b : ℕ} {x y : List ℕ} → Whole x → Whole y → Steps s l a (view x) → Steps s l b (view y)
+        → (a ≡ b) × (x ≡ y)
+
+It unfolds to `Steps` (crates/steps/specs/Promises.antt), `Past` (crates/history/specs/Past.antt); and of `model`: `State`, `sized`.
+""",
+    "docs/ARCHITECTURE.md": "| what | theorem |\n|---|---|\n| one answer | `host: Answers.one-answer`, `host: Sections.inside` |\n",
+    "docs/RULES.md": "## Edits that break a rule\n\n1 `a_rule_left_out`.\n",
+    "docs/ANSWERS.md": """
+| reading | theorem |
+|---|---|
+| `host: View.view` | `host: Answers.one-content` |
+
+| named promise | theorem |
+|---|---|
+| `steps: Promises.Steps` | `steps: Answers.one-step` |
+| `host: View.Whole` | `host: Answers.one-content` |
+
+## Wrong machines
+
+| machine | refused as |
+|---|---|
+| refuses all | steps: refuses_all |
+| mixes numbers | the compiler: see below |
+
+## Edits of definitions and statements
+
+| crate | edit | what it tries |
+|---|---|---|
+| model | a_size_less | one page less |
+
+## host
+
+| function | theorem | ruled out | also ruled out | tried by |
+|---|---|---|---|---|
+| `host::whole` | `host: Answers.one-answer` | none: it answers nothing | nor a change | |
+| `host::owner` | `host: Answers.one-answer` | the kind | 0 always | steps: refuses_all |
+| `host::place` | `host: Answers.one-answer` | 0 | one more | |
+| `host::set_owner` | `host: Answers.one-content` | the kind stored | nothing stored | another_stored; model: a_size_less |
+| `host::Cursor::at` | `host: Answers.one-answer` | 0 | one more | |
+
+## steps
+
+| function | theorem | ruled out | also ruled out | tried by |
+|---|---|---|---|---|
+| `steps::step` | `steps: Answers.one-step` | refuses all | does nothing | refuses_all |
+| `steps::put` | `host: Answers.one-answer` | one byte | no byte | |
+
+## ration
+
+| function | theorem | ruled out | also ruled out | tried by |
+|---|---|---|---|---|
+| `ration::ration_step` | `host: Answers.one-content` | refuses all | does nothing | |
+""",
+    "include/ration.h": "/* void ration_none(void); */\nvoid ration_step(uint8_t state[4]); /* a step */\n",
+    "crates/laws/src/lib.rt": "",
+    "crates/laws/specs/Choice.antt": "use mathlib.Core.Bool.{Bool}\nuse mathlib.Core.List.{List}\nuse lib.ListN.{getD}\nabbrev pub pick : Bool\npick = true\n",
+    "crates/model/src/lib.rt": "",
+    "crates/model/specs/Sizes.antt": "use Prim.Native.Nat.{ℕ}\nuse lib.Dec.{eqb}\nabbrev pub pages : ℕ\npages = 64\n",
+    "crates/model/specs/Names.antt": "use Prim.Native.Nat.{ℕ}\nabbrev pub kindNone : ℕ\nkindNone = 0\n",
+    "crates/model/specs/State.antt": "pub record State : Type 0 where\n  pub owner : ℕ\n\nabbrev pub sized : State → ℕ\nsized s = 4\n",
+    "crates/model/specs/Records.antt": "use mathlib.Core.Option.{Option}\nuse mathlib.Core.Path.{_≡_}\nuse Rattle.model.specs.Sizes.{pages}\npub data Action : Type 0 where\n  silent : Action\n",
+    "crates/model/specs/Shadow.antt": "use Rattle.model.specs.State.{State as Other}\npub record Hidden : Type 0 where\n  pub all : Other\n",
+    "crates/model/must-fail/a_size_less.edit": "",
+    "crates/model/must-fail/a_rule_left_out.edit": "",
+    "crates/history/src/lib.rt": "",
+    "crates/history/specs/Past.antt": """-- no state: use Rattle.model.specs.State.{State} is a comment
+{- and so is
+use Rattle.model.specs.State.{State}
+-}
+use Rattle.laws.specs.Choice.{pick}
+use Rattle.model.specs.Names.{kindNone}
+use Rattle.model.specs.Records.{Action}
+use Rattle.model.specs.Records as records
+abbrev pub Past : Type 0
+Past = List Action
+""",
+    "crates/host/specs/View.antt": "abbrev pub Whole : List ℕ → Type 0\nWhole l = length l ≡ 4\n\nunfoldable pub view : List ℕ → State\nview l = l\n",
+    "crates/host/proofs/Sections.antt": "module _ (s : State) where\n  pub inside : s ≡ s\n  inside = refl\n\npub record Fields : Type 0 where\n  pub field : ℕ\n",
+    "crates/host/proofs/Answers.antt": """use mathlib.Core.Path.{_≡_, sym, _∙_}
+use Rattle.host.specs.View.{view, Whole}
+
+pub one-answer {ℓ} : {A : Type ℓ} (a x y : A) → x ≡ a → y ≡ a → x ≡ y
+one-answer a x y e f = e ∙ sym f
+
+pub one-content : (s : State) (xs ys : List ℕ) → Whole xs → Whole ys → view xs ≡ s → view ys ≡ s → xs ≡ ys
+one-content s xs ys h k e f = view-inj xs ys h k (e ∙ sym f)
+""",
+    "crates/host/must-fail/another_stored.edit": "",
+    "crates/host/src/lib.rt": """// bytes: pub fn not_here() -> u8
+mod start; // start.rt
+pub use start::set_owner;
+ghost use mathlib.Core.Path.{_≡_};
+ghost use Rattle.host.specs.View.{view, Whole};
+
+pub type Host = [u8; 4];
+
+pub struct Ma(pub u8);
+
+pub struct Cursor {
+    pub at: u8,
+    pub left: u8,
+}
+
+/* pub fn nor_here() -> u8 { 0 } */
+pub fn whole(h: &Host)
+    ensures { λ _. ⌜ Whole (now (h .entry)) ⌝ }
+{
+}
+
+pub fn owner(
+    h: &Host, // lent
+    p: Ma,
+) -> u8
+    ensures {
+        λ r. ⌜ r ≡
+            at (view (now (h .entry))) (p .0) ⌝
+    }
+{
+    h[p.0 as usize]
+}
+
+pub fn place(l: u8) -> Ma
+    ensures { λ r. ⌜ r .0 ≡ l ⌝ }
+{
+    Ma(l)
+}
+
+impl Cursor {
+    pub fn at(self) -> u8
+        ensures { λ r. ⌜ r ≡ self .at ⌝ }
+    {
+        self.at
+    }
+}
+""",
+    "crates/host/src/start.rt": """use super::Host;
+use super::Ma;
+ghost use mathlib.Core.Path.{_≡_};
+ghost use Rattle.host.specs.View.{view};
+
+pub(crate) fn inner(h: &Host)
+    requires small { ⌜ 1 ≡ 1 ⌝ }
+{
+    let text = "} pub fn quoted() {";
+}
+
+pub fn set_owner(h: &mut Host, p: Ma, v: u8)
+    ensures { λ _. ⌜ view (now (h .exit)) ≡ put (view (now (h .entry))) (p .0) v ⌝ }
+{
+    super::whole(h);
+}
+""",
+    "crates/steps/specs/Promises.antt": "pub record Steps (s : State) (l : List ℕ) (a : ℕ) (t : State) : Type 0 where\n  pub answer : a ≡ s\n",
+    "crates/steps/proofs/Answers.antt": """use Rattle.host.specs.View.{view, Whole}
+use Rattle.steps.specs.Promises.{Steps}
+
+pub one-step : (s : State) (l : List ℕ) {a b : ℕ} {x y : List ℕ} → Whole x → Whole y → Steps s l a (view x) → Steps s l b (view y)
+    → (a ≡ b) × (x ≡ y)
+one-step s l h k p q = cc
+
+-- pub gone : ℕ
+""",
+    "crates/steps/must-fail/refuses_all.edit": "",
+    "crates/steps/src/lib.rt": """use host::Cursor;
+use host::Host;
+use host::owner;
+ghost use mathlib.Core.Path.{_≡_};
+ghost use Rattle.host.specs.View.{view};
+ghost use Rattle.steps.specs.Promises.{Steps};
+
+pub fn step(h: &mut Host, bytes: &[u8]) -> u8
+    ensures { λ r. ⌜ Steps (view (now (h .entry))) (now (bytes .entry)) r (view (now (h .exit))) ⌝ }
+{
+    let p = host::place(0);
+    host::set_owner(h, p, 0);
+    let c = Cursor { at: 0, left: 1 };
+    owner(h, p) + c.at()
+}
+
+pub fn put(out: &mut [u8], more: &mut [u8], a: u8) -> u8
+    ensures { λ n. ⌜ (n ≡ 2) × (now (out .exit) ≡ a ∷ []) × (now (more .exit) ≡ []) ⌝ }
+{
+    2
+}
+""",
+    "crates/ration/src/lib.rt": """use host::Host;
+ghost use mathlib.Core.Path.{_≡_};
+ghost use Rattle.host.specs.View.{view};
+
+#[no_mangle]
+pub extern "C" fn ration_step(h: &mut Host)
+    ensures { λ _. ⌜ view (now (h .exit)) ≡ view (now (h .entry)) ⌝ }
+{
+    steps::step(h, b"");
+}
+""",
+    "crates/rpj/src/main.rt": "fn main() {\n    steps::put(b\"\", b\"\", 0);\n}\n",
+}
