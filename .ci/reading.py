@@ -172,14 +172,15 @@ def tree(text):
     return stack[0]
 
 
-def split(term, sign):
+def split(term, sign, opened=True):
+    """Split at a sign at the top; a part that is all in brackets is opened."""
     parts = [[]]
     for word in term:
         if word == sign:
             parts.append([])
         else:
             parts[-1].append(word)
-    return [part[0] if len(part) == 1 and isinstance(part[0], list) else part for part in parts]
+    return [part[0] if opened and len(part) == 1 and isinstance(part[0], list) else part for part in parts]
 
 
 def words(term):
