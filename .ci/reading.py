@@ -84,13 +84,17 @@ def parted(text, sign):
     return [part.strip() for part in parts + [text[last:]] if part.strip()]
 
 
+# up to a brace, or to a semicolon that is not of an array's type
+BEFORE_BRACE = re.compile(r"(?:\[(?:[^\[\]]|\[[^\[\]]*\])*\]|[^\[{;])*")
+
+
 class Function:
     """A function: its crate, file and module, its name (behind its type's, for a method), parameters, result, contract and body."""
 
     def __init__(self, crate, file, text, head):
         self.crate, self.file = crate, file
         self.module = re.sub(r"^(lib|main)$", "", Path(file).relative_to(f"crates/{crate}/src").with_suffix("").as_posix())
-        self.public = bool(re.fullmatch(r"pub", head["pub"] or ""))
+        self.public = head["pub"] == "pub"  # and not pub(crate)
         self.external = "extern" in (head["how"] or "")
         self.name = self.bare = head["name"]
         at = head.end()
@@ -102,13 +106,12 @@ class Function:
         self.contract = {"requires": [], "ensures": []}
         self.result = ""
         while True:
-            brace = re.compile(r"[{;]").search(re.sub(r"\[[^\[\]{}]*\]", lambda m: "[" + "_" * (len(m.group()) - 2) + "]", text[end : end + 4000]))
-            brace = end + brace.start() if brace else len(text) - 1
-            between = text[end:brace]
+            between = BEFORE_BRACE.match(text, end).group()
+            brace = end + len(between)
             clause = re.search(r"\b(requires|ensures)(?:\s+\w+)?\s*$", between)
             kind = re.match(r"\s*->\s*(.*)", between[: clause.start()] if clause else between, re.S)
             self.result = kind[1].strip() if kind else self.result
-            end = closed(text, brace) if text[brace] == "{" else brace + 1
+            end = closed(text, brace) if text[brace : brace + 1] == "{" else brace + 1
             if not clause:
                 break
             self.contract[clause[1]].append(text[brace + 1 : end - 1].strip())
