@@ -5,3 +5,4 @@ pub mod Search
 pub mod Counts
 pub mod Grid
 pub mod Bits
+pub mod Answers
