@@ -29,7 +29,7 @@ one-run s j b {x = x} {y = y} h k p q = (
 -- ---- the refused
 
 -- the model's journal that is turned away leaves state and buffer
-turned-same : (s : State) (j b : List ℕ) (n : ℕ) → Refused n ≡ verdictTo (journal s j b .verdict)
+pub turned-same : (s : State) (j b : List ℕ) (n : ℕ) → Refused n ≡ verdictTo (journal s j b .verdict)
     → (journal s j b .state ≡ s) × (journal s j b .buffer ≡ b)
 turned-same s j b n =
     either (λ (a : After). Refused n ≡ verdictTo (a .verdict) → (a .state ≡ s) × (a .buffer ≡ b)) s j b
