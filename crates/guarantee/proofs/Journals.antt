@@ -24,7 +24,7 @@ use Rattle.journal.specs.Promises.{Runs}
 use Rattle.journal.proofs.Answers.{turned-same}
 use Rattle.journal.proofs.Reports.{played-journal}
 use Rattle.journal.proofs.Prefix.{run-valid, run-form, all-taken}
-use Rattle.guarantee.specs.Guarantee.{Guarantee, Turn, Turns, pastOf, Answers, pastOfAll, AllAnswers, AllGuarantee}
+use Rattle.guarantee.specs.Guarantee.{Guarantee, Turn, Turns, pastOf, Answers, AllGuarantee}
 use Rattle.guarantee.proofs.Answered.{answered}
 
 -- ---- one journal
@@ -36,16 +36,15 @@ journal-on {b} {s} {past} {u} k j w buffer {r} {t} {c} p =
     subst (λ (n : ℕ). Guarantee b s past j headerBytes n t c) (sym (all-taken u j buffer p))
     (answered k j w headerBytes (taken j) buffer (p .state ∙ ap (λ (x : After). x .state) ended) (p .buffer ∙ ap (λ (x : After). x .buffer) ended))
 
-module _ (j : List ℕ) (w : Bytes j) (buffer : List ℕ) {r : Report} {c : List ℕ} where
-  pub guaranteed : {s : State} → Valid s → {b : Book} → Agrees s b → {t : State} → Runs s j buffer (Done r) t c
-      → Guarantee b s [] j headerBytes (r .taken) t c
-  guaranteed v a p = journal-on (kept-first v a) j w buffer p
+pub guaranteed : {s : State} → Valid s → {b : Book} → Agrees s b → (j : List ℕ) → Bytes j → (buffer : List ℕ) {r : Report} {t : State} {c : List ℕ}
+    → Runs s j buffer (Done r) t c → Guarantee b s [] j headerBytes (r .taken) t c
+guaranteed v a = journal-on (kept-first v a)
 
-  -- The theorem to quote: a journal of any bytes, run on the fresh machine.
-  pub fresh-guaranteed : (x y : List ℕ) → view x ≡ fresh → Runs (view x) j buffer (Done r) (view y) c
-      → Guarantee freshBook fresh [] j headerBytes (r .taken) (view y) c
-  fresh-guaranteed x y e p =
-      journal-on fresh-kept j w buffer (subst (λ (s : State). Runs s j buffer (Done r) (view y) c) e p)
+-- The theorem to quote: a journal of any bytes, run on the fresh machine.
+pub fresh-guaranteed : (x y j buffer c : List ℕ) (r : Report) → view x ≡ fresh → Bytes j → Runs (view x) j buffer (Done r) (view y) c
+    → Guarantee freshBook fresh [] j headerBytes (r .taken) (view y) c
+fresh-guaranteed x y j buffer c r e w p =
+    journal-on fresh-kept j w buffer (subst (λ (s : State). Runs s j buffer (Done r) (view y) c) e p)
 
 -- ---- journals one after another
 
@@ -73,10 +72,11 @@ refused-leaves s t [] x xs n e (u, p, q) =
     subst (λ (v : State). Turns v xs t) (p .state ∙ turned-same s (x .journal) (x .before) n (sym e ∙ p .verdict) .0) q
 refused-leaves s t (y ∷ ys) x xs n e (u, p, q) = (u, p, refused-leaves u t ys x xs n e q)
 
-module _ (xs : List Turn) (w : Each (λ x. Bytes (x .journal)) xs) where
-  pub all-guaranteed : {s : State} → Valid s → {b : Book} → Agrees s b → {t : State} → Turns s xs t → AllGuarantee b s [] xs t
-  all-guaranteed v a p = journals-on (kept-first v a) xs w p
+pub all-guaranteed : {s : State} → Valid s → {b : Book} → Agrees s b → (xs : List Turn) → Each (λ x. Bytes (x .journal)) xs → {t : State} → Turns s xs t
+    → AllGuarantee b s [] xs t
+all-guaranteed v a = journals-on (kept-first v a)
 
-  -- The theorem to quote: journals of any bytes, one after another from the fresh machine on.
-  pub fresh-all : (x y : List ℕ) → view x ≡ fresh → Turns (view x) xs (view y) → AllGuarantee freshBook fresh [] xs (view y)
-  fresh-all x y e p = journals-on fresh-kept xs w (subst (λ (s : State). Turns s xs (view y)) e p)
+-- The theorem to quote: journals of any bytes, one after another from the fresh machine on.
+pub fresh-all : (x y : List ℕ) (xs : List Turn) → view x ≡ fresh → Each (λ x. Bytes (x .journal)) xs → Turns (view x) xs (view y)
+    → AllGuarantee freshBook fresh [] xs (view y)
+fresh-all x y xs e w p = journals-on fresh-kept xs w (subst (λ (s : State). Turns s xs (view y)) e p)

@@ -1,6 +1,6 @@
 -- Demand 3 of `steps::run`: from any state to which a past led, from any valid state with a book that agrees with it, and from the fresh machine.
 -- Assumes nothing.
-use mathlib.Core.Path.{_≡_, sym, subst, _∙_}
+use mathlib.Core.Path.{_≡_, subst, _∙_}
 use mathlib.Core.Bool.{true}
 use mathlib.Core.List.{List, []}
 use Prim.Native.Nat.{ℕ}
@@ -34,13 +34,12 @@ part-on {b} {s} {past} {u} h j w start buffer {n} {k} {t} {c} p =
     subst (λ (i : ℕ). Guarantee b s past j start i t c) e
     (answered h j w start m buffer (p .state ∙ pick-yes (r .state) u v) (p .buffer ∙ pick-yes (pasted (r .answers) buffer) buffer v))
 
-module _ (j : List ℕ) (w : Bytes j) (start : ℕ) (buffer : List ℕ) {n k : ℕ} {c : List ℕ} where
-  pub part-guaranteed : {s : State} → Valid s → {b : Book} → Agrees s b → {t : State} → Runs s j start buffer (Took n k) t c
-      → Guarantee b s [] j start n t c
-  part-guaranteed v a p = part-on (kept-first v a) j w start buffer p
+pub part-guaranteed : {s : State} → Valid s → {b : Book} → Agrees s b → (j : List ℕ) → Bytes j → (start : ℕ) (buffer : List ℕ)
+    → {n k : ℕ} {t : State} {c : List ℕ} → Runs s j start buffer (Took n k) t c → Guarantee b s [] j start n t c
+part-guaranteed v a = part-on (kept-first v a)
 
-  -- The theorem to quote: records of any bytes, from any place on, run on the fresh machine.
-  pub fresh-part : (x y : List ℕ) → view x ≡ fresh → Runs (view x) j start buffer (Took n k) (view y) c
-      → Guarantee freshBook fresh [] j start n (view y) c
-  fresh-part x y e p =
-      part-on fresh-kept j w start buffer (subst (λ (s : State). Runs s j start buffer (Took n k) (view y) c) e p)
+-- The theorem to quote: records of any bytes, from any place on, run on the fresh machine.
+pub fresh-part : (x y j : List ℕ) (start : ℕ) (buffer c : List ℕ) (n k : ℕ) → view x ≡ fresh → Bytes j
+    → Runs (view x) j start buffer (Took n k) (view y) c → Guarantee freshBook fresh [] j start n (view y) c
+fresh-part x y j start buffer c n k e w p =
+    part-on fresh-kept j w start buffer (subst (λ (s : State). Runs s j start buffer (Took n k) (view y) c) e p)

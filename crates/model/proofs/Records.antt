@@ -15,7 +15,7 @@ use Rattle.laws.specs.Choice.{pick, at, _⇔_}
 use Rattle.laws.proofs.Cases.{split}
 use Rattle.laws.proofs.Tests.{eq⇔, lt⇔, and⇔, or⇔, pick⇔, true⇔, as⇔}
 use Rattle.model.specs.Sizes.{stealth, calls, kinds, recordBytes, byteBound, valueBound}
-use Rattle.model.specs.Records.{rowOf, kindHcall, kindOfCall, Action, silent, read, readHyper, write, writeHyper, new, newSm, del, switch, lswitch, hcall, retCtrl, chmod, pin, unpin, Fields, fields, fieldsOf, CallInRange, InRange, wordBytes, bytesOf, encode, Bytes, wordAt, fieldsIn, hasValue, limitKind, wellFormed, actionOf, decode}
+use Rattle.model.specs.Records.{rowOf, kindHcall, kindOfCall, Action, silent, read, readHyper, write, writeHyper, new, newSm, del, switch, lswitch, hcall, retCtrl, chmod, pin, unpin, Fields, fields, fieldsOf, CallInRange, InRange, wordBytes, bytesOf, encode, Bytes, fieldsIn, hasValue, limitKind, wellFormed, actionOf, decode}
 use Rattle.model.specs.Rules.{Within}
 use Rattle.model.proofs.RuleTests.{within⇔}
 
