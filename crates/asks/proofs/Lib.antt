@@ -1,4 +1,3 @@
-pub mod Some
 pub mod Maps
 pub mod Tables
 pub mod Row

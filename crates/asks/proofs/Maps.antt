@@ -11,7 +11,7 @@ use Rattle.laws.specs.Choice.{at, _⇔_}
 use Rattle.laws.specs.Search.{someBelow}
 use Rattle.laws.proofs.Cases.{split, below?}
 use Rattle.laws.proofs.Lists.{at-past}
-use Rattle.laws.proofs.Tests.{eq⇔, true⇔, and⇔, not⇔, as⇔, not-so}
+use Rattle.laws.proofs.Tests.{eq⇔, true⇔, and⇔, not⇔, as⇔, not-so, agree}
 use Rattle.laws.proofs.Search.{some⇔}
 use Rattle.laws.proofs.Grid.{someGrid⇔}
 use Rattle.model.specs.Sizes.{pages, addresses}
@@ -19,7 +19,6 @@ use Rattle.model.specs.Names.{kindTable}
 use Rattle.model.specs.State.{Shape, isPage, isMapped, mapsPage}
 use Rattle.model.specs.Checks.{hasEntries}
 use Rattle.asks.specs.Maps.{mapsPageOf, entryIs, entryMaps, rowMaps, tableMaps, entryThere, onlyAt, butAt}
-use Rattle.asks.proofs.Some.{same-test}
 
 -- ---- one entry
 
@@ -71,7 +70,7 @@ module _ (h : Shape) (f : ℕ → Bool) (p : ℕ) (size : length (h .pages .entr
 
   pub by-tables : someBelow pages (tableMaps h f p) ≡ mapsPageOf h f p
   by-tables =
-      same-test tables⇔
+      agree tables⇔
       (as⇔ mapped⇔
       (λ w. let u = w .1 in (u .0, u .2, (u .4 .1, (u .1, u .3, ((w .0, u .4 .0 .0), u .4 .0 .1)))))
       (λ w. let k = w .2 .1 in (k .2 .0 .0, (w .0, k .0, w .1, k .1, ((k .2 .0 .1, k .2 .1), w .2 .0)))))
@@ -83,7 +82,7 @@ module _ (h : Shape) (f : ℕ → Bool) (p : ℕ) (size : length (h .pages .entr
 pub row-at : (h : Shape) (p t a : ℕ) → a < addresses → entryIs h p t a ≡ rowMaps h (onlyAt a) p t
 unfolding rowMaps entryMaps
 row-at h p t a b =
-    same-test (true⇔ (entryIs h p t a))
+    agree (true⇔ (entryIs h p t a))
     (as⇔ (some⇔ addresses (λ v c. and⇔ (true⇔ (entryIs h p t v)) (eq⇔ v a)))
     (λ w. rw (w .2 .1) at (w .2 .0))
     (λ e. (a, b, (e, refl))))
@@ -91,7 +90,7 @@ row-at h p t a b =
 -- every address
 pub any-address : (h : Shape) (p : ℕ) → length (h .pages .entry) ≡ pages * addresses → mapsPageOf h (butAt addresses) p ≡ mapsPageOf h (λ v. true) p
 any-address h p size =
-    same-test (mapped⇔ h (butAt addresses) p size)
+    agree (mapped⇔ h (butAt addresses) p size)
     (as⇔ (mapped⇔ h (λ v. true) p size)
     (λ w. let u = w .1 in (w .0, (u .0, u .1, u .2, u .3, ((u .4 .0 .0, rw (ne-eqb (u .1) addresses (λ e. omega (arith, u .3)))), u .4 .1))))
     (λ w. let u = w .1 in (w .0, (u .0, u .1, u .2, u .3, ((u .4 .0 .0, refl), u .4 .1)))))
@@ -101,7 +100,7 @@ any-address h p size =
 pub by-row : (h : Shape) (m : ℕ) → length (h .pages .entry) ≡ pages * addresses → someBelow addresses (entryThere h m) ≡ hasEntries (h .pages .entry) m
 unfolding hasEntries entryThere
 by-row h m size =
-    same-test (some⇔ addresses (λ v b. not⇔ (eq⇔ (at (h .pages .entry) (addresses * m + v)) 0)))
+    agree (some⇔ addresses (λ v b. not⇔ (eq⇔ (at (h .pages .entry) (addresses * m + v)) 0)))
     (as⇔
     (someGrid⇔ addresses (omega arith) pages (h .pages .entry) size (λ r v e. not (eqb e 0) && eqb r m)
     (λ r v hr hv. and⇔ (not⇔ (eq⇔ (at (h .pages .entry) (addresses * r + v)) 0)) (eq⇔ r m)))

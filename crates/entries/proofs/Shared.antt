@@ -12,7 +12,7 @@ use lib.ListN.{length, set, length-set, replicate, length-replicate, getD-replic
 use Rattle.laws.specs.Choice.{at, _⇔_}
 use Rattle.laws.specs.Search.{allBelow}
 use Rattle.laws.proofs.Cases.{split, same?, below?, pick-yes, pick-not}
-use Rattle.laws.proofs.Tests.{eq⇔, lt⇔, and⇔, imp⇔, not⇔, as⇔, fails, not-so}
+use Rattle.laws.proofs.Tests.{eq⇔, lt⇔, and⇔, imp⇔, not⇔, as⇔, fails, not-so, agree}
 use Rattle.laws.proofs.Search.{all⇔}
 use Rattle.laws.proofs.Lists.{at-past, at-same, at-other}
 use Rattle.laws.proofs.Grid.{place-below, row-of, column-of, row-below, column-below}
@@ -25,7 +25,6 @@ use Rattle.model.specs.Valid.{Sized}
 use Rattle.model.proofs.RuleTests.{lead-page, lead-holds, rule6⇔}
 use Rattle.entries.specs.Entries.{counted, countedAt, unshared}
 use Rattle.places.specs.Places.{stealthCacheable}
-use Rattle.seek.proofs.Loops.{agree}
 
 -- all entries
 abbrev pub entries : ℕ

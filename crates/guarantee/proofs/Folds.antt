@@ -1,4 +1,4 @@
--- Demand 3 of `step`, record after record.
+-- Demand 3 of `step`, record after record: from any state to which a past led, and from the fresh machine.
 -- Assumes nothing.
 use mathlib.Core.Path.{_≡_, refl, sym, ap, ap₂, subst, _∙_}
 use mathlib.Core.List.{List, [], _∷_, map}
@@ -7,16 +7,12 @@ use Rattle.laws.proofs.Search.{Each}
 use Rattle.model.specs.State.{State}
 use Rattle.model.specs.Fresh.{fresh}
 use Rattle.model.specs.Records.{Bytes}
-use Rattle.model.specs.Valid.{Valid}
 use Rattle.model.specs.Step.{numberOf, valueOf, step}
 use Rattle.model.specs.Step as model
 use Rattle.model.specs.Run.{run, runBy}
-use Rattle.keeps.proofs.Fresh.{fresh-valid}
-use Rattle.history.specs.Past.{Book, freshBook, pastAfter, valuesAfter}
-use Rattle.history.specs.Agrees.{Agrees}
+use Rattle.history.specs.Past.{Book, Past, freshBook, pastAfter, valuesAfter}
 use Rattle.history.specs.Rations.{Kept}
-use Rattle.history.proofs.Fresh.{fresh-agrees}
-use Rattle.history.proofs.Rations.{rations}
+use Rattle.history.proofs.Rations.{rations-on, fresh-kept}
 use Rattle.steps.specs.declared.Answer.{Answer}
 use Rattle.steps.specs.Turns.{answerFrom}
 use Rattle.steps.proofs.Running.{from-to}
@@ -36,29 +32,29 @@ folds-run s t (r ∷ rs) (x ∷ xs) h =
       q .1 ∙ ap (λ (u : State). run u rs .state) e,
     )
 
-module _ {s : State} (v : Valid s) {b : Book} (a : Agrees s b) (rs : List (List ℕ)) (w : Each Bytes rs) (xs : List Answer) (t : State)
-    (p : Folds s rs xs t) where
+module _ {b : Book} {s : State} {past : Past} {u : State} (k : Kept b s past u) (rs : List (List ℕ)) (w : Each Bytes rs) (xs : List Answer) (t : State)
+    (p : Folds u rs xs t) where
   abbrev given : List model.Answer
   given = map answerFrom xs
 
-  same-answers : run s rs .answers ≡ given
-  same-answers = sym (folds-run s t rs xs p .0)
+  same-answers : run u rs .answers ≡ given
+  same-answers = sym (folds-run u t rs xs p .0)
 
   -- what the state holds, by the actions whose answers' numbers are 0
-  pub steps-keep : Kept b s (pastAfter [] rs (map numberOf given)) t
+  pub steps-keep : Kept b s (pastAfter past rs (map numberOf given)) t
   steps-keep =
-      subst (λ (l : List model.Answer). Kept b s (pastAfter [] rs (map numberOf l)) t) same-answers
-      (subst (λ (x : State). Kept b s (pastAfter [] rs (map numberOf (run s rs .answers))) x) (sym (folds-run s t rs xs p .1)) (rations v a rs w .kept))
+      subst (λ (l : List model.Answer). Kept b s (pastAfter past rs (map numberOf l)) t) same-answers
+      (subst (λ (x : State). Kept b s (pastAfter past rs (map numberOf (run u rs .answers))) x) (sym (folds-run u t rs xs p .1)) (rations-on k rs w .kept))
 
   -- and what each record answered
-  pub steps-answer : map valueOf given ≡ valuesAfter b [] rs (map numberOf given)
+  pub steps-answer : map valueOf given ≡ valuesAfter b past rs (map numberOf given)
   steps-answer =
-      subst (λ (l : List model.Answer). map valueOf l ≡ valuesAfter b [] rs (map numberOf l)) same-answers (rations v a rs w .answers)
+      subst (λ (l : List model.Answer). map valueOf l ≡ valuesAfter b past rs (map numberOf l)) same-answers (rations-on k rs w .answers)
 
 pub fresh-keep : (rs : List (List ℕ)) → Each Bytes rs → (xs : List Answer) (t : State) → Folds fresh rs xs t
     → Kept freshBook fresh (pastAfter [] rs (map numberOf (map answerFrom xs))) t
-fresh-keep rs w xs t p = steps-keep fresh-valid fresh-agrees rs w xs t p
+fresh-keep = steps-keep fresh-kept
 
 pub fresh-answer : (rs : List (List ℕ)) → Each Bytes rs → (xs : List Answer) (t : State) → Folds fresh rs xs t
     → map valueOf (map answerFrom xs) ≡ valuesAfter freshBook [] rs (map numberOf (map answerFrom xs))
-fresh-answer rs w xs t p = steps-answer fresh-valid fresh-agrees rs w xs t p
+fresh-answer = steps-answer fresh-kept

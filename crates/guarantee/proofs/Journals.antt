@@ -1,70 +1,82 @@
--- Demand 3 of `journal::run`: from any valid state with a book that agrees with it, and from the fresh machine.
+-- Demand 3 of `journal::run`: of one journal, and of journals one after another on one host; from any state to which a past led, from any valid
+-- state with a book that agrees with it, and from the fresh machine.
 -- Assumes nothing.
 use mathlib.Core.Path.{_≡_, sym, ap, subst, _∙_}
-use mathlib.Core.List.{List, [], map}
+use mathlib.Core.List.{List, [], _∷_, _++_}
 use Prim.Native.Nat.{ℕ}
-use lib.ListN.{length}
-use Rattle.laws.proofs.Lists.{length-listOf}
+use Rattle.laws.proofs.Search.{Each}
+use Rattle.model.specs.Sizes.{headerBytes}
 use Rattle.model.specs.State.{State}
 use Rattle.model.specs.Fresh.{fresh}
 use Rattle.model.specs.Records.{Bytes}
 use Rattle.model.specs.Valid.{Valid}
-use Rattle.model.specs.Step.{Answer, numberOf, valueOf, step}
 use Rattle.model.specs.Run.{run}
-use Rattle.model.specs.Journal.{taken, recordAt, recordsOf, pasted, journal, After, played}
-use Rattle.model.proofs.Bytes.{records-bytes}
-use Rattle.model.proofs.Run.{run-length}
-use Rattle.keeps.proofs.Fresh.{fresh-valid}
-use Rattle.history.specs.Past.{Book, freshBook, pastAfter, valuesAfter}
+use Rattle.model.specs.Journal.{taken, recordsOf, journal, After, played}
+use Rattle.history.specs.Past.{Book, Past, freshBook}
 use Rattle.history.specs.Agrees.{Agrees}
 use Rattle.history.specs.Rations.{Kept}
-use Rattle.history.proofs.Fresh.{fresh-agrees}
-use Rattle.history.proofs.Journals.{journal-rations}
+use Rattle.history.proofs.Rations.{kept-first, fresh-kept}
 use Rattle.host.specs.View.{view}
 use Rattle.journal.specs.declared.Report.{Report}
-use Rattle.journal.specs.declared.Verdict.the-variants.{Done}
+use Rattle.journal.specs.declared.Verdict.{Verdict}
+use Rattle.journal.specs.declared.Verdict.the-variants.{Done, Refused}
 use Rattle.journal.specs.Promises.{Runs}
+use Rattle.journal.proofs.Answers.{turned-same}
 use Rattle.journal.proofs.Reports.{played-journal}
 use Rattle.journal.proofs.Prefix.{run-valid, run-form, all-taken}
-use Rattle.guarantee.specs.Guarantee.{numbersIn, valuesIn, Guarantee}
-use Rattle.guarantee.proofs.Reading.{run-below, numbers-back, values-back}
+use Rattle.guarantee.specs.Guarantee.{Guarantee, Turn, Turns, pastOf, Answers, AllGuarantee}
+use Rattle.guarantee.proofs.Answered.{answered}
 
-module _ {s : State} (v : Valid s) {b : Book} (a : Agrees s b) (j buffer : List ℕ) (w : Bytes j) {r : Report} {t : State} {c : List ℕ}
-    (p : Runs s j buffer (Done r) t c) where
-  abbrev answers : List Answer
-  answers = run s (recordsOf j) .answers
+-- ---- one journal
 
-  ended : journal s j buffer ≡ played (run s (recordsOf j)) j buffer
-  ended = played-journal s j buffer (run-valid s j buffer p) (run-form s j buffer p)
+pub journal-on : {b : Book} {s : State} {past : Past} {u : State} → Kept b s past u → (j : List ℕ) → Bytes j → (buffer : List ℕ)
+    → {r : Report} {t : State} {c : List ℕ} → Runs u j buffer (Done r) t c → Guarantee b s past j headerBytes (r .taken) t c
+journal-on {b} {s} {past} {u} k j w buffer {r} {t} {c} p =
+    let ended : journal u j buffer ≡ played (run u (recordsOf j)) j buffer = played-journal u j buffer (run-valid u j buffer p) (run-form u j buffer p) in
+    subst (λ (n : ℕ). Guarantee b s past j headerBytes n t c) (sym (all-taken u j buffer p))
+    (answered k j w headerBytes (taken j) buffer (p .state ∙ ap (λ (x : After). x .state) ended) (p .buffer ∙ ap (λ (x : After). x .buffer) ended))
 
-  so-many : length answers ≡ r .taken
-  so-many = run-length step s (recordsOf j) ∙ length-listOf (taken j) (recordAt j) ∙ sym (all-taken s j buffer p)
-
-  in-buffer : c ≡ pasted answers buffer
-  in-buffer = p .buffer ∙ ap (λ (x : After). x .buffer) ended
-
-  numbers : numbersIn c (r .taken) ≡ map numberOf answers
-  numbers = ap (λ (l : List ℕ). numbersIn l (r .taken)) in-buffer ∙ ap (numbersIn (pasted answers buffer)) (sym so-many) ∙ numbers-back answers buffer
-
-  values : valuesIn c (r .taken) ≡ map valueOf answers
-  values =
-      ap (λ (l : List ℕ). valuesIn l (r .taken)) in-buffer
-      ∙ ap (valuesIn (pasted answers buffer)) (sym so-many)
-      ∙ values-back answers buffer (run-below v (recordsOf j) (records-bytes j w))
-
-  pub guaranteed : Guarantee b s j (r .taken) t c
-  guaranteed =
-      let q = journal-rations v a j w in
-      let e : run s (recordsOf j) .state ≡ t = sym (p .state ∙ ap (λ (x : After). x .state) ended) in
-      record {
-        kept =
-            subst (λ (l : List ℕ). Kept b s (pastAfter [] (recordsOf j) l) t) (sym numbers)
-            (subst (λ (x : State). Kept b s (pastAfter [] (recordsOf j) (map numberOf answers)) x) e (q .kept));
-        answers = values ∙ q .answers ∙ ap (valuesAfter b [] (recordsOf j)) (sym numbers);
-      }
+pub guaranteed : {s : State} → Valid s → {b : Book} → Agrees s b → (j : List ℕ) → Bytes j → (buffer : List ℕ) {r : Report} {t : State} {c : List ℕ}
+    → Runs s j buffer (Done r) t c → Guarantee b s [] j headerBytes (r .taken) t c
+guaranteed v a = journal-on (kept-first v a)
 
 -- The theorem to quote: a journal of any bytes, run on the fresh machine.
 pub fresh-guaranteed : (x y j buffer c : List ℕ) (r : Report) → view x ≡ fresh → Bytes j → Runs (view x) j buffer (Done r) (view y) c
-    → Guarantee freshBook fresh j (r .taken) (view y) c
+    → Guarantee freshBook fresh [] j headerBytes (r .taken) (view y) c
 fresh-guaranteed x y j buffer c r e w p =
-    guaranteed fresh-valid fresh-agrees j buffer w (subst (λ (s : State). Runs s j buffer (Done r) (view y) c) e p)
+    journal-on fresh-kept j w buffer (subst (λ (s : State). Runs s j buffer (Done r) (view y) c) e p)
+
+-- ---- journals one after another
+
+module _ {b : Book} {s : State} where
+  -- one of them, run or refused
+  turn-kept : {past : Past} {u : State} → Kept b s past u → (j : List ℕ) → Bytes j → (before : List ℕ) (v : Verdict) {t : State} (after : List ℕ)
+      → Runs u j before v t after → Kept b s (pastOf past j v after) t × Answers b past j before v after
+  turn-kept k j w before (Done r) after p = let g = journal-on k j w before p in (g .kept, g .answers)
+  turn-kept {past} {u} k j w before (Refused n) {t} after p =
+      let e = turned-same u j before n (p .verdict) in
+      (subst (λ (x : State). Kept b s past x) (sym (p .state ∙ e .0)) k, p .buffer ∙ e .1)
+
+  pub journals-on : {past : Past} {u : State} → Kept b s past u → (xs : List Turn) → Each (λ x. Bytes (x .journal)) xs → {t : State} → Turns u xs t
+      → AllGuarantee b s past xs t
+  journals-on {past} k [] w {t} e = record { kept = subst (λ (x : State). Kept b s past x) (sym e) k; answers = tt }
+  journals-on k (x ∷ xs) w (v, p, q) =
+      let o = turn-kept k (x .journal) (w .0) (x .before) (x .verdict) (x .after) p in
+      let g = journals-on (o .0) xs (w .1) q in
+      record { kept = g .kept; answers = (o .1, g .answers) }
+
+-- a refused one among them leaves all as it was: the others go as they would without it
+pub refused-leaves : (s t : State) (ys : List Turn) (x : Turn) (xs : List Turn) (n : ℕ) → x .verdict ≡ Refused n → Turns s (ys ++ x ∷ xs) t
+    → Turns s (ys ++ xs) t
+refused-leaves s t [] x xs n e (u, p, q) =
+    subst (λ (v : State). Turns v xs t) (p .state ∙ turned-same s (x .journal) (x .before) n (sym e ∙ p .verdict) .0) q
+refused-leaves s t (y ∷ ys) x xs n e (u, p, q) = (u, p, refused-leaves u t ys x xs n e q)
+
+pub all-guaranteed : {s : State} → Valid s → {b : Book} → Agrees s b → (xs : List Turn) → Each (λ x. Bytes (x .journal)) xs → {t : State} → Turns s xs t
+    → AllGuarantee b s [] xs t
+all-guaranteed v a = journals-on (kept-first v a)
+
+-- The theorem to quote: journals of any bytes, one after another from the fresh machine on.
+pub fresh-all : (x y : List ℕ) (xs : List Turn) → view x ≡ fresh → Each (λ x. Bytes (x .journal)) xs → Turns (view x) xs (view y)
+    → AllGuarantee freshBook fresh [] xs (view y)
+fresh-all x y xs e w p = journals-on fresh-kept xs w (subst (λ (s : State). Turns s xs (view y)) e p)

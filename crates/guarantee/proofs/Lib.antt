@@ -1,3 +1,5 @@
 pub mod Reading
+pub mod Answered
+pub mod Parts
 pub mod Journals
 pub mod Folds

@@ -10,13 +10,13 @@ use Rattle.laws.specs.Choice.{at}
 use Rattle.laws.specs.Search.{listFrom, listOf}
 use Rattle.laws.proofs.Lists.{listFrom-shift, listOf-same}
 use Rattle.laws.proofs.Search.{Each}
-use Rattle.model.specs.Sizes.{answerBytes, valueBound}
+use Rattle.model.specs.Sizes.{answerBytes, answerValueAt, valueBound}
 use Rattle.model.specs.State.{State}
 use Rattle.model.specs.Records.{Action, silent, read, readHyper, write, writeHyper, new, newSm, del, switch, lswitch, hcall, retCtrl, chmod, pin, unpin, Bytes, wordAt}
 use Rattle.model.specs.Valid.{Valid}
 use Rattle.model.specs.Step.{Answer, numberOf, valueOf, value, Outcome, step}
 use Rattle.model.specs.Run.{run, runBy}
-use Rattle.model.specs.Journal.{answerBytesOf, written, pasted}
+use Rattle.model.specs.Journal.{answerBytesOf, numberAt, valueAt, written, pasted}
 use Rattle.model.proofs.Records.{word-back}
 use Rattle.keeps.proofs.Core.{core-of}
 use Rattle.keeps.proofs.Share.{present-below}
@@ -82,11 +82,11 @@ module _ {A : Type 0} (G : List ℕ → A) (f : Answer → A) where
           let e : answerBytes * suc i ≡ answerBytes + answerBytes * i = omega arith in
           ap (λ (k : ℕ). drop k (answerBytesOf x ++ l)) e ∙ drop-append-add (answerBytesOf x) l (answerBytes * i)
 
-number-read : (x : Answer) → Reads (λ l. at l 0) numberOf x
+number-read : (x : Answer) → Reads (λ l. numberAt l 0) numberOf x
 unfolding Reads
 number-read x l = refl
 
-value-read : (x : Answer) → Small x → Reads (λ l. wordAt l 4) valueOf x
+value-read : (x : Answer) → Small x → Reads (λ l. valueAt l 0) valueOf x
 unfolding Reads
 value-read x h l = word-back (valueOf x) h
 
@@ -105,17 +105,17 @@ module _ (xs : List Answer) (b : List ℕ) where
   pub numbers-back : numbersIn (pasted xs b) (length xs) ≡ map numberOf xs
   numbers-back =
       listOf-same (length xs) 0 (λ i h. sym (getD-drop (answerBytes * i) (pasted xs b) 0 0 ∙ ap (at (pasted xs b)) (omega arith)))
-      ∙ each-read (λ l. at l 0) numberOf xs (each-any number-read xs) rest
+      ∙ each-read (λ l. numberAt l 0) numberOf xs (each-any number-read xs) rest
 
   pub values-back : Each Small xs → valuesIn (pasted xs b) (length xs) ≡ map valueOf xs
   values-back h =
-      listOf-same (length xs) 0 (λ i k. sym (word-drop (pasted xs b) (answerBytes * i)))
-      ∙ each-read (λ l. wordAt l 4) valueOf xs (each-of value-read xs h) rest
+      listOf-same (length xs) 0 (λ i k. sym (word-drop (pasted xs b) (answerBytes * i) answerValueAt))
+      ∙ each-read (λ l. valueAt l 0) valueOf xs (each-of value-read xs h) rest
     where
-      word-drop : (l : List ℕ) (p : ℕ) → wordAt (drop p l) 4 ≡ wordAt l (p + 4)
-      word-drop l p =
-          let e : at (drop p l) 4 ≡ at l (p + 4) = getD-drop p l 4 0 in
-          let f : at (drop p l) 5 ≡ at l (p + 4 + 1) = getD-drop p l 5 0 ∙ ap (at l) (omega arith) in
-          let g : at (drop p l) 6 ≡ at l (p + 4 + 2) = getD-drop p l 6 0 ∙ ap (at l) (omega arith) in
-          let h : at (drop p l) 7 ≡ at l (p + 4 + 3) = getD-drop p l 7 0 ∙ ap (at l) (omega arith) in
+      word-drop : (l : List ℕ) (p k : ℕ) → wordAt (drop p l) k ≡ wordAt l (p + k)
+      word-drop l p k =
+          let e : at (drop p l) k ≡ at l (p + k) = getD-drop p l k 0 in
+          let f : at (drop p l) (k + 1) ≡ at l (p + k + 1) = getD-drop p l (k + 1) 0 ∙ ap (at l) (omega arith) in
+          let g : at (drop p l) (k + 2) ≡ at l (p + k + 2) = getD-drop p l (k + 2) 0 ∙ ap (at l) (omega arith) in
+          let h : at (drop p l) (k + 3) ≡ at l (p + k + 3) = getD-drop p l (k + 3) 0 ∙ ap (at l) (omega arith) in
           omega arith

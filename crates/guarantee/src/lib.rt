@@ -1,1 +1,1 @@
-// Demand 3 down to the bytes: what `step` and `journal::run` leave, by the history of accepted actions. No code.
+// Demand 3 down to the bytes: what `step`, `steps::run` and `journal::run` leave, one call after another, by the history of accepted actions. No code.

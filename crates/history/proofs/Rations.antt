@@ -17,9 +17,9 @@ use Rattle.model.specs.Run.{run}
 use Rattle.keeps.specs.Allowed.{Accepts}
 use Rattle.keeps.proofs.Fresh.{fresh-valid}
 use Rattle.keeps.proofs.Answers.{accepted-outcome}
-use Rattle.history.specs.Past.{Book, freshBook, activeIn, currentIn, kindIn, linkIn, valueIn, pinsIn, unpinsIn, answerIn}
+use Rattle.history.specs.Past.{Past, Book, freshBook, activeIn, currentIn, kindIn, linkIn, valueIn, pinsIn, unpinsIn, answerIn}
 use Rattle.history.specs.Agrees.{Has, Agrees}
-use Rattle.history.specs.Rations.{owned, pastOf, Rations}
+use Rattle.history.specs.Rations.{owned, pastOf, Kept, RationsOn, Rations}
 use Rattle.history.proofs.Step.{value-agrees}
 use Rattle.history.proofs.Places.{one-place, guest-owner, all-pages, host-zero}
 use Rattle.history.proofs.Runs.{Tells, run-tells, run-values}
@@ -36,40 +36,51 @@ data-found {s} {b} a g pa hg ha k = go (at (s .shape .pages .physical) (physical
         let h : Has (s .shape .pages .physical) g pa p = record { guest = hg; address = ha; holds = e } in
         (p, h, a .value g pa p h (sym (a .chart .kind g pa p h) ∙ k))
 
+module _ {b : Book} {s : State} {past : Past} {u : State} where
+  -- what a past tells is all that is kept
+  kept-told : Tells (owned (s .shape)) b past u → Kept b s past u
+  kept-told t =
+      record {
+        valid = t .valid;
+        pinned = t .counted;
+        whole = all-pages (t .valid);
+        places = one-place (t .valid);
+        owners = guest-owner (t .valid);
+        found = data-found (t .agrees);
+        holds = t .agrees .value;
+        hosts = host-zero (t .valid);
+        agrees = t .agrees;
+      }
+
+  told-kept : Kept b s past u → Tells (owned (s .shape)) b past u
+  told-kept k = record { valid = k .valid; agrees = k .agrees; counted = k .pinned }
+
+-- what a past kept, a run that goes on keeps
+pub rations-on : {b : Book} {s : State} {past : Past} {u : State} → Kept b s past u → (rs : List (List ℕ)) → Each Bytes rs → RationsOn b s past u rs
+rations-on k rs w = let t = told-kept k in record { kept = kept-told (run-tells t rs w); answers = run-values t rs w }
+
 module _ {s : State} (v : Valid s) {b : Book} (a : Agrees s b) where
-  start : Tells (owned (s .shape)) b [] s
+  -- before any action
+  pub kept-first : Kept b s [] s
   unfolding activeIn currentIn kindIn linkIn valueIn pinsIn unpinsIn
-  start = record { valid = v; agrees = a; counted = λ g hg. refl }
+  kept-first = kept-told (record { valid = v; agrees = a; counted = λ g hg. refl })
 
   pub rations : (rs : List (List ℕ)) → Each Bytes rs → Rations b s rs
-  rations rs w =
-      let t = run-tells start rs w in
-      record {
-        kept =
-            record {
-              valid = t .valid;
-              pinned = t .counted;
-              whole = all-pages (t .valid);
-              places = one-place (t .valid);
-              owners = guest-owner (t .valid);
-              found = data-found (t .agrees);
-              holds = t .agrees .value;
-              hosts = host-zero (t .valid);
-              agrees = t .agrees;
-            };
-        answers = run-values start rs w;
-      }
+  rations = rations-on kept-first
 
   -- after any records, the next one that is accepted answers what the past before it says
   pub accepted-answer : (rs : List (List ℕ)) → Each Bytes rs → (r : List ℕ) (x : Accepts (run s rs .state) r)
       → valueOf (step (run s rs .state) r .answer) ≡ answerIn b (pastOf s rs) (x .action)
   unfolding activeIn currentIn linkIn valueIn
   accepted-answer rs w r x =
-      let t = run-tells start rs w in
+      let t = rations rs w .kept in
       rw (accepted-outcome (run s rs .state) r x) (value-agrees (t .valid) (t .agrees) (x .action) (x .inRange) (x .allowed))
 
+pub fresh-kept : Kept freshBook fresh [] fresh
+fresh-kept = kept-first fresh-valid fresh-agrees
+
 pub fresh-rations : (rs : List (List ℕ)) → Each Bytes rs → Rations freshBook fresh rs
-fresh-rations = rations fresh-valid fresh-agrees
+fresh-rations = rations-on fresh-kept
 
 -- a guest owns its first page and those that it pinned, less those that it unpinned
 pub fresh-pinned : (rs : List (List ℕ)) → Each Bytes rs → (g : ℕ) → g < guests

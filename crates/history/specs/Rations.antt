@@ -74,7 +74,12 @@ pub record Kept (b : Book) (s : State) (past : Past) (t : State) : Type 0 where
   -- The active guest, current tables, kinds and links are what the past says too.
   pub agrees : Agrees t (bookAfter b past)
 
--- Of a run over the records rs: the state after it is kept, and each record's value is what the past before it says.
-pub record Rations (b : Book) (s : State) (rs : List (List ℕ)) : Type 0 where
-  pub kept : Kept b s (pastOf s rs) (run s rs .state)
-  pub answers : values s rs ≡ valuesAfter b [] rs (numbers s rs)
+-- Of a run over the records rs from the state u, to which a past led: the state after it is kept, and each record's value is what the past before
+-- it says.
+pub record RationsOn (b : Book) (s : State) (past : Past) (u : State) (rs : List (List ℕ)) : Type 0 where
+  pub kept : Kept b s (pastAfter past rs (numbers u rs)) (run u rs .state)
+  pub answers : values u rs ≡ valuesAfter b past rs (numbers u rs)
+
+-- and from s itself
+abbrev pub Rations : Book → State → List (List ℕ) → Type 0
+Rations b s rs = RationsOn b s [] s rs

@@ -3,14 +3,12 @@
 -- Assumes nothing.
 use mathlib.Core.Path.{_≡_, refl, sym, ap, subst, _∙_}
 use mathlib.Core.List.{List}
-use Prim.Native.Nat.{ℕ, _+_, _*_}
+use Prim.Native.Nat.{ℕ, _+_}
 use native.Mathlib.Omega.{arith}
 use lib.Dec.{eqb}
-use Rattle.laws.specs.Choice.{at}
 use Rattle.laws.specs.Search.{countBelow}
-use Rattle.model.specs.Sizes.{answerBytes}
 use Rattle.model.specs.State.{State}
-use Rattle.model.specs.Journal.{ran, turnedAway, zeroReport, reportOf, After, journal}
+use Rattle.model.specs.Journal.{numberAt, ran, turnedAway, zeroReport, reportOf, After, journal}
 use Rattle.model.specs.Journal as model
 use Rattle.model.proofs.Journal.{either, accepted-and-refused, accepted-zeros}
 use Rattle.host.specs.View.{view, Whole}
@@ -31,7 +29,7 @@ one-run s j b {x = x} {y = y} h k p q = (
 -- ---- the refused
 
 -- the model's journal that is turned away leaves state and buffer
-turned-same : (s : State) (j b : List ℕ) (n : ℕ) → Refused n ≡ verdictTo (journal s j b .verdict)
+pub turned-same : (s : State) (j b : List ℕ) (n : ℕ) → Refused n ≡ verdictTo (journal s j b .verdict)
     → (journal s j b .state ≡ s) × (journal s j b .buffer ≡ b)
 turned-same s j b n =
     either (λ (a : After). Refused n ≡ verdictTo (a .verdict) → (a .state ≡ s) × (a .buffer ≡ b)) s j b
@@ -61,8 +59,8 @@ module _ (s : State) (j b : List ℕ) {r : Report} {t : State} {c : List ℕ} (p
   pub counts-add-up : r .accepted + r .refused ≡ r .taken
   counts-add-up = subst (λ (x : Report). x .accepted + x .refused ≡ x .taken) (sym reported) (accepted-and-refused s j b)
 
-  -- accepted is how many n below taken have 0 at byte 8n of the answers
-  pub accepted-are-zeros : r .accepted ≡ countBelow (r .taken) (λ n. eqb (at c (answerBytes * n)) 0)
+  -- accepted is how many of the numbers taken are 0
+  pub accepted-are-zeros : r .accepted ≡ countBelow (r .taken) (λ n. eqb (numberAt c n) 0)
   accepted-are-zeros =
-      subst (λ (x : Report). x .accepted ≡ countBelow (x .taken) (λ n. eqb (at c (answerBytes * n)) 0)) (sym reported)
-      (accepted-zeros s j b ∙ ap (λ (l : List ℕ). countBelow (reportOf (journal s j b .verdict) .taken) (λ n. eqb (at l (answerBytes * n)) 0)) (sym (p .buffer)))
+      subst (λ (x : Report). x .accepted ≡ countBelow (x .taken) (λ n. eqb (numberAt c n) 0)) (sym reported)
+      (accepted-zeros s j b ∙ ap (λ (l : List ℕ). countBelow (reportOf (journal s j b .verdict) .taken) (λ n. eqb (numberAt l n) 0)) (sym (p .buffer)))

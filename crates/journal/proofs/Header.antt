@@ -1,6 +1,6 @@
 -- The header, byte by byte: its mark, its version as a number of 16 bits, and three zeros.
 -- Assumes nothing.
-use mathlib.Core.Path.{_≡_, sym, subst, _∙_}
+use mathlib.Core.Path.{_≡_, sym, subst}
 use mathlib.Core.Bool.{Bool, false, _&&_}
 use mathlib.Core.List.{List}
 use Prim.Native.Nat.{ℕ, zero, suc, _+_, _*_, _≤_, _<_}
@@ -8,8 +8,7 @@ use native.Mathlib.Omega.{arith}
 use lib.Dec.{eqb}
 use lib.ListN.{length}
 use Rattle.laws.specs.Choice.{at, _⇔_}
-use Rattle.laws.proofs.Cases.{split}
-use Rattle.laws.proofs.Tests.{eq⇔, lt⇔, and⇔, not⇔, as⇔, fails, not-so}
+use Rattle.laws.proofs.Tests.{eq⇔, lt⇔, and⇔, not⇔, as⇔, not-so, same-test}
 use Rattle.laws.proofs.Search.{all⇔}
 use Rattle.model.specs.Sizes.{headerBytes, byteBound}
 use Rattle.model.specs.Journal.{header, hasHeader}
@@ -26,11 +25,6 @@ module _ (j : List ℕ) where
 
   pub too-short : length j < headerBytes → false ≡ hasHeader j
   too-short h = sym (not-so header⇔ (λ t. let k = t .0 in omega arith))
-
--- tests of the same fact are the same
-same-test {ℓ κ} : {b c : Bool} {P : Type ℓ} {Q : Type κ} → b ⇔ P → c ⇔ Q → (P → Q) → (Q → P) → b ≡ c
-same-test {b} {c} p q f g =
-    split b (λ e. e ∙ sym (q .1 (f (p .0 e)))) (λ e. e ∙ sym (not-so q (λ y. fails p e (g y))))
 
 -- the bytes one by one
 module _ (j : List ℕ) (m : Bool) (v : ℕ) where

@@ -5,3 +5,5 @@ pub mod Search
 pub mod Counts
 pub mod Grid
 pub mod Bits
+pub mod Loops
+pub mod Answers

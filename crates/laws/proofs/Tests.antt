@@ -71,3 +71,7 @@ not-so {b = false} h n = refl
 pub same-test {ℓ κ} : {b c : Bool} {P : Type ℓ} {Q : Type κ} → b ⇔ P → c ⇔ Q → (P → Q) → (Q → P) → b ≡ c
 same-test {b = true} h k f g = sym (k .1 (f (h .0 refl)))
 same-test {b = false} h k f g = sym (not-so k (λ q. false≢true (h .1 (g q))))
+
+-- and of one
+pub agree {ℓ} : {b c : Bool} {P : Type ℓ} → b ⇔ P → c ⇔ P → b ≡ c
+agree h k = same-test h k (λ p. p) (λ p. p)

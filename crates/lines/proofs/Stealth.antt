@@ -9,12 +9,12 @@ use borrow.Author.Tests.{ltb-true}
 use Rattle.laws.specs.Choice.{pick, at}
 use Rattle.laws.specs.Search.{allBelow}
 use Rattle.laws.proofs.Cases.{split, same?}
+use Rattle.laws.proofs.Loops.{all-made, all-fails}
 use Rattle.model.specs.Sizes.{pages, ways, stealth, stealthSet}
 use Rattle.model.specs.State.{State, isPage, table, lineAt, stealthLine}
 use Rattle.model.specs.History.{start}
 use Rattle.model.specs.RuleTests.{stealthPage, rule9?}
 use Rattle.lines.specs.Lines.{firstWay}
-use Rattle.seek.proofs.Loops.{all-made, all-fails}
 use Rattle.host.proofs.Leads.{leads-at}
 
 -- ---- 9

@@ -19,7 +19,7 @@ use Rattle.model.specs.Sizes.{answerBytes}
 use Rattle.model.specs.State.{State}
 use Rattle.model.specs.Step.{Answer, numberOf, step}
 use Rattle.model.specs.Run.{run}
-use Rattle.model.specs.Journal.{taken, recordAt, recordsOf, answerBytesOf, written, pasted, acceptedIn, refusedIn, reportOf, After, journalRefusal, played, away, journal}
+use Rattle.model.specs.Journal.{taken, recordAt, recordsOf, answerBytesOf, numberAt, written, pasted, acceptedIn, refusedIn, reportOf, After, journalRefusal, played, away, journal}
 use Rattle.model.proofs.Run.{run-length}
 
 -- a journal is run, or turned away with all as it was
@@ -41,19 +41,19 @@ in-all : (xs : List Answer) → acceptedIn xs + refusedIn xs ≡ length xs
 in-all [] = refl
 in-all (x ∷ xs) = let h = in-all xs in split (eqb (numberOf x) 0) (λ e. rw e (omega arith)) (λ e. rw e (omega arith))
 
--- byte 8n of the written answers is answer n's number, whatever follows them
-zeros : (xs : List Answer) (b : List ℕ) → countBelow (length xs) (λ n. eqb (at (written xs ++ b) (answerBytes * n)) 0) ≡ acceptedIn xs
+-- among the written answers the numbers are theirs, whatever follows them
+zeros : (xs : List Answer) (b : List ℕ) → countBelow (length xs) (λ n. eqb (numberAt (written xs ++ b) n) 0) ≡ acceptedIn xs
 unfolding countBelow
 zeros [] b = refl
 zeros (x ∷ xs) b =
-    count-front (length xs) (λ n. eqb (at (written (x ∷ xs) ++ b) (answerBytes * n)) 0)
+    count-front (length xs) (λ n. eqb (numberAt (written (x ∷ xs) ++ b) n) 0)
     ∙ ap (λ (k : ℕ). pick (eqb (numberOf x) 0) 1 0 + k)
     (count-same (length xs) (λ i h. ap (λ (k : ℕ). eqb k 0) (later i)) ∙ zeros xs b)
   where
-    later : (i : ℕ) → at (written (x ∷ xs) ++ b) (answerBytes * suc i) ≡ at (written xs ++ b) (answerBytes * i)
+    later : (i : ℕ) → numberAt (written (x ∷ xs) ++ b) (suc i) ≡ numberAt (written xs ++ b) i
     later i =
         let e : answerBytes * suc i ≡ answerBytes + answerBytes * i = omega arith in
-        ap (λ (l : List ℕ). at l (answerBytes * suc i)) (append-assoc (answerBytesOf x) (written xs) b)
+        ap (λ (l : List ℕ). numberAt l (suc i)) (append-assoc (answerBytesOf x) (written xs) b)
         ∙ ap (at (answerBytesOf x ++ (written xs ++ b))) e
         ∙ getD-append-add (answerBytesOf x) (written xs ++ b) (answerBytes * i) 0
 
@@ -66,10 +66,10 @@ accepted-and-refused s j b =
 
 pub accepted-zeros : (s : State) (j b : List ℕ)
     → reportOf (journal s j b .verdict) .accepted
-    ≡ countBelow (reportOf (journal s j b .verdict) .taken) (λ n. eqb (at (journal s j b .buffer) (answerBytes * n)) 0)
+    ≡ countBelow (reportOf (journal s j b .verdict) .taken) (λ n. eqb (numberAt (journal s j b .buffer) n) 0)
 unfolding countBelow
 accepted-zeros s j b =
-    either (λ a. reportOf (a .verdict) .accepted ≡ countBelow (reportOf (a .verdict) .taken) (λ n. eqb (at (a .buffer) (answerBytes * n)) 0)) s j b
+    either (λ a. reportOf (a .verdict) .accepted ≡ countBelow (reportOf (a .verdict) .taken) (λ n. eqb (numberAt (a .buffer) n) 0)) s j b
     (λ e. let xs = run s (recordsOf j) .answers in
-    sym (ap (λ (n : ℕ). countBelow n (λ i. eqb (at (pasted xs b) (answerBytes * i)) 0)) (sym (answered s j)) ∙ zeros xs (drop (answerBytes * length xs) b)))
+    sym (ap (λ (n : ℕ). countBelow n (λ i. eqb (numberAt (pasted xs b) i) 0)) (sym (answered s j)) ∙ zeros xs (drop (answerBytes * length xs) b)))
     (λ n. refl)

@@ -15,7 +15,7 @@ use Rattle.laws.specs.Choice.{pick, at, _⇔_}
 use Rattle.laws.proofs.Cases.{split}
 use Rattle.laws.proofs.Tests.{eq⇔, lt⇔, and⇔, or⇔, pick⇔, true⇔, as⇔}
 use Rattle.model.specs.Sizes.{stealth, calls, kinds, recordBytes, byteBound, valueBound}
-use Rattle.model.specs.Records.{rowOf, kindHcall, kindOfCall, Action, silent, read, readHyper, write, writeHyper, new, newSm, del, switch, lswitch, hcall, retCtrl, chmod, pin, unpin, Fields, fields, fieldsOf, CallInRange, InRange, wordBytes, bytesOf, encode, Bytes, wordAt, fieldsIn, hasValue, limitKind, wellFormed, actionOf, decode}
+use Rattle.model.specs.Records.{rowOf, kindHcall, kindOfCall, Action, silent, read, readHyper, write, writeHyper, new, newSm, del, switch, lswitch, hcall, retCtrl, chmod, pin, unpin, Fields, fields, fieldsOf, CallInRange, InRange, wordBytes, bytesOf, encode, Bytes, fieldsIn, hasValue, limitKind, wellFormed, actionOf, decode}
 use Rattle.model.specs.Rules.{Within}
 use Rattle.model.proofs.RuleTests.{within⇔}
 
@@ -70,7 +70,7 @@ bytes-back (a ∷ b ∷ c ∷ d ∷ v ∷ w ∷ x ∷ y ∷ []) h e =
     (word-forth v w x y (h 4 (omega arith)) (h 5 (omega arith)) (h 6 (omega arith)) (h 7 (omega arith)))
 bytes-back (a ∷ b ∷ c ∷ d ∷ v ∷ w ∷ x ∷ y ∷ z ∷ l) h e = absurd (omega arith)
 
-word-below : (l : List ℕ) → Bytes l → length l ≡ recordBytes → wordAt l 4 < valueBound
+word-below : (l : List ℕ) → Bytes l → length l ≡ recordBytes → fieldsIn l .value < valueBound
 word-below l h e = omega (arith, h 4 (omega arith), h 5 (omega arith), h 6 (omega arith), h 7 (omega arith))
 
 -- ---- well formed fields, in words
@@ -230,7 +230,8 @@ encode-decode l x h e =
     split (eqb (length l) recordBytes && wellFormed (fieldsIn l))
     (λ t.
     let w = and⇔ (eq⇔ (length l) recordBytes) (formed⇔ (fieldsIn l)) .0 t in
-    let z = sound (at l 1) (at l 2) (at l 3) (wordAt l 4) (word-below l h (w .0)) (at l 0) (w .1) in
+    let f = fieldsIn l in
+    let z = sound (f .a) (f .b) (f .call) (f .value) (word-below l h (w .0)) (f .kind) (w .1) in
     let q : actionOf (fieldsIn l) ≡ x = Option·some-injective (actionOf (fieldsIn l)) x (rw t at e) in
     subst (λ (y : Action). InRange y × (encode y ≡ l)) q (z .inRange, ap bytesOf (z .same) ∙ bytes-back l h (w .0)))
     (λ t. absurd (Option·none-ne-some x (rw t at e)))

@@ -7,9 +7,9 @@ use lib.Dec.{ltb, eqb}
 use lib.ListN.{length, take, drop}
 use Rattle.laws.specs.Choice.{pick, at}
 use Rattle.laws.specs.Search.{allBelow, listOf}
-use Rattle.model.specs.Sizes.{recordBytes, answerBytes, headerBytes, recordLimit}
+use Rattle.model.specs.Sizes.{recordBytes, answerBytes, answerValueAt, headerBytes, recordLimit}
 use Rattle.model.specs.State.{State}
-use Rattle.model.specs.Records.{wordBytes}
+use Rattle.model.specs.Records.{wordBytes, wordAt}
 use Rattle.model.specs.Valid.{valid?}
 use Rattle.model.specs.Step.{Answer, refused, numberOf, valueOf}
 use Rattle.model.specs.Run.{Ran, run}
@@ -47,6 +47,13 @@ recordsOf j = listOf (taken j) (recordAt j)
 -- number, three zeros, value low byte first
 abbrev pub answerBytesOf : Answer → List ℕ
 answerBytesOf x = numberOf x ∷ 0 ∷ 0 ∷ 0 ∷ wordBytes (valueOf x)
+
+-- answer i of a buffer, read back: its number and its value
+abbrev pub numberAt : List ℕ → ℕ → ℕ
+numberAt b i = at b (answerBytes * i)
+
+abbrev pub valueAt : List ℕ → ℕ → ℕ
+valueAt b i = wordAt b (answerBytes * i + answerValueAt)
 
 abbrev pub written : List Answer → List ℕ
 written [] = []

@@ -78,6 +78,10 @@ recordBytes = 8
 abbrev pub answerBytes : ℕ
 answerBytes = 8
 
+-- the byte of an answer at which its value starts
+abbrev pub answerValueAt : ℕ
+answerValueAt = 4
+
 abbrev pub headerBytes : ℕ
 headerBytes = 8
 

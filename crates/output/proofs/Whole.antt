@@ -7,15 +7,13 @@ use Prim.Native.Nat.{ℕ, zero, suc, _+_, _*_, _^_, _≤_, _<_}
 use native.Mathlib.Omega.{arith}
 use lib.Dec.{eqb, ltb}
 use lib.ListN.{length, drop, length-append}
-use Rattle.laws.specs.Choice.{at}
 use Rattle.laws.proofs.Cases.{pick-both}
-use Rattle.model.specs.Sizes.{answerBytes, recordLimit}
-use Rattle.model.specs.Records.{wordAt}
+use Rattle.model.specs.Sizes.{answerBytes, answerValueAt, recordLimit}
 use Rattle.model.specs.State.{State}
 use Rattle.model.specs.Fresh.{fresh}
 use Rattle.model.specs.Valid.{valid?}
 use Rattle.model.specs.Run.{run}
-use Rattle.model.specs.Journal.{Report, recordsOf, pasted, reported, reportOf, hasHeader, wholeRecords, formRefusal, journalRefusal, After, journal}
+use Rattle.model.specs.Journal.{Report, recordsOf, numberAt, valueAt, pasted, reported, reportOf, hasHeader, wholeRecords, formRefusal, journalRefusal, After, journal}
 use Rattle.model.proofs.Journal.{either, accepted-and-refused}
 use Rattle.host.specs.Cut.{Small}
 use Rattle.journal.proofs.Reports.{form-fits}
@@ -40,8 +38,9 @@ lines-long zero c s h = omega arith
 lines-long (suc n) c s h =
     let i = answerBytes * n in
     let r = lines-long n c s (omega arith) in
-    let l = line-long (n + 1) (at c i) (wordAt c (i + 4)) (omega arith) (omega (arith, s i)) (omega (arith, s (i + 4), s (i + 4 + 1), s (i + 4 + 2), s (i + 4 + 3))) in
-    omega (arith, length-append (recordLines n c) (recordLine (n + 1) (at c i) (wordAt c (i + 4))))
+    let k = i + answerValueAt in
+    let l = line-long (n + 1) (numberAt c n) (valueAt c n) (omega arith) (omega (arith, s i)) (omega (arith, s k, s (k + 1), s (k + 2), s (k + 3))) in
+    omega (arith, length-append (recordLines n c) (recordLine (n + 1) (numberAt c n) (valueAt c n)))
 
 cut-long : (n : ℕ) → n < 10 ^ 1 → length (cutLine n) ≤ 6
 cut-long n h =

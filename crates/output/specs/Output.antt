@@ -1,12 +1,10 @@
 -- Document 01, "Journal and program": what the program prints, in ASCII.
 -- Assumes nothing.
 use mathlib.Core.List.{List, [], _∷_, _++_}
-use Prim.Native.Nat.{ℕ, zero, suc, _+_, _*_}
+use Prim.Native.Nat.{ℕ, zero, suc, _+_}
 use lib.Dec.{eqb}
-use Rattle.laws.specs.Choice.{pick, at}
-use Rattle.model.specs.Sizes.{answerBytes}
-use Rattle.model.specs.Records.{wordAt}
-use Rattle.model.specs.Journal.{Report, Verdict, ran, turnedAway, After}
+use Rattle.laws.specs.Choice.{pick}
+use Rattle.model.specs.Journal.{numberAt, valueAt, Report, Verdict, ran, turnedAway, After}
 use Rattle.print.specs.Text.{decimalOf}
 
 -- ---- words
@@ -44,7 +42,7 @@ recordLine n a v = numberThen n space ++ numberThen a space ++ numberThen v line
 unfoldable pub recordLines : ℕ → List ℕ → List ℕ
 recordLines zero b = []
 recordLines (suc n) b =
-    recordLines n b ++ recordLine (n + 1) (at b (answerBytes * n)) (wordAt b (answerBytes * n + 4))
+    recordLines n b ++ recordLine (n + 1) (numberAt b n) (valueAt b n)
 
 abbrev pub refusedLine : ℕ → List ℕ
 refusedLine n = refusedWord ++ numberThen n lineEnd

@@ -14,6 +14,8 @@ ghost use Rattle.output.specs.Promises.{takenIn, Prints};
 
 const ANSWER: usize = steps::ANSWER;
 
+const ANSWER_VALUE: usize = steps::ANSWER_VALUE;
+
 const SPACE: u8 = b' ';
 
 const LINE_END: u8 = b'\n';
@@ -62,7 +64,7 @@ fn record_lines(out: &mut [u8], at: usize, answers: &[u8], n: usize) -> usize
     for i in 0..n {
         let start = ANSWER * i;
         let answer = answers[start];
-        let value = word(answers, start + 4);
+        let value = word(answers, start + ANSWER_VALUE);
         to = record_line(out, to, (i + 1) as u64, answer, value);
     }
     to

@@ -9,9 +9,9 @@ use borrow.Author.Tests.{eq-eqb, ne-eqb}
 use Rattle.laws.specs.Choice.{_⇒_}
 use Rattle.laws.specs.Search.{allBelow}
 use Rattle.laws.proofs.Cases.{split, same?}
+use Rattle.laws.proofs.Loops.{all-made, all-fails}
 use Rattle.model.specs.Sizes.{guests}
 use Rattle.model.specs.Names.{ownerGuest}
-use Rattle.seek.proofs.Loops.{all-made, all-fails}
 
 module _ (o : ℕ) (f : ℕ → Bool) where
   abbrev asked : ℕ → Bool

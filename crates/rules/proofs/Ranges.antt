@@ -7,7 +7,7 @@ use native.Mathlib.Omega.{arith}
 use lib.Dec.{ltb}
 use Rattle.laws.specs.Choice.{at, _⇔_}
 use Rattle.laws.specs.Search.{allBelow}
-use Rattle.laws.proofs.Tests.{eq⇔, lt⇔, and⇔, imp⇔, as⇔}
+use Rattle.laws.proofs.Tests.{eq⇔, lt⇔, and⇔, imp⇔, as⇔, agree}
 use Rattle.laws.proofs.Search.{all⇔}
 use Rattle.laws.proofs.Grid.{place-of}
 use Rattle.model.specs.Sizes.{guests, physicals, pages, addresses, lines, sets, slots, calls, marksBound}
@@ -21,7 +21,6 @@ use Rattle.model.specs.Valid.{Sized}
 use Rattle.model.proofs.RuleTests.{within⇔, rule10⇔}
 use Rattle.host.proofs.Inverse.{Bounded}
 use Rattle.ranges.specs.Ranges.{pageInRange, placeInRange, guestInRange, lineInRange, setInRange, slotInRange, entryInRange}
-use Rattle.seek.proofs.Loops.{agree}
 
 module _ (s : State) where
   page⇔ : (p : ℕ) → p < pages → pageInRange s p

@@ -9,6 +9,7 @@ use borrow.Author.Tests.{lt-ltb}
 use Rattle.laws.specs.Choice.{at, _⇒_}
 use Rattle.laws.specs.Search.{allBelow, someBelow}
 use Rattle.laws.proofs.Grid.{place-of}
+use Rattle.laws.proofs.Loops.{all-same, some-same, all-places}
 use Rattle.model.specs.Sizes.{guests, physicals, pages, addresses, lines, ways, slots, setOf, slotOf}
 use Rattle.model.specs.Names.{ownerGuest, kindData}
 use Rattle.model.specs.State.{State, isPage, table, mapsPage}
@@ -19,7 +20,6 @@ use Rattle.host.proofs.Leads.{leads-at}
 use Rattle.places.specs.Places.{heldBy, heldOnce, registeredAt}
 use Rattle.lines.specs.Lines.{linedBy, lined, slotBy, slotted}
 use Rattle.entries.specs.Entries.{ownBy, ownAt}
-use Rattle.seek.proofs.Loops.{all-same, some-same, all-places}
 use Rattle.seek.proofs.Leading.{leads-same}
 
 module _ (s : State) (size : Sized s) where

@@ -137,6 +137,10 @@ module _ (s : State) (j : List ℕ) (start : ℕ) (b : List ℕ) where
 
 -- ---- on a valid state
 
+pub recordsFrom-bytes : (j : List ℕ) → Bytes j → (start n : ℕ) → Each Bytes (recordsFrom j start n)
+recordsFrom-bytes j w start n =
+    each-listFrom Bytes (recordFrom j start) (λ i. part-bytes j w (start + recordBytes * i) recordBytes) n 0
+
 run-judged : {s : State} → Valid s → (rs : List (List ℕ)) → Each Bytes rs → runBy judged s rs ≡ runBy judge s rs
 unfolding runBy
 run-judged v [] b = refl
@@ -153,7 +157,7 @@ module _ (s : State) (j : List ℕ) (start : ℕ) (b : List ℕ) (n : ℕ) where
   first-played e w p =
       let v = valid⇔ s .0 e in
       let rs = recordsFrom j start n in
-      let y = each-listFrom Bytes (recordFrom j start) (λ i. part-bytes j w (start + recordBytes * i) recordBytes) n 0 in
+      let y = recordsFrom-bytes j w start n in
       let r : runBy judged s rs ≡ run s rs = run-judged v rs y ∙ sym (run-judges v rs y) in
       record {
         result = ap (Took n) (p .counted ∙ ap (λ (x : Ran). acceptedIn (x .answers)) r) ∙ sym (pick-yes (tookOf (run s rs) n) (Refused 1) e);

@@ -6,7 +6,7 @@ use Prim.Native.Nat.{ℕ, suc, _+_, _*_, _/_, _%_, _^_, _≤_}
 use native.Mathlib.Omega.{arith}
 use lib.ListN.{length, drop, set, length-append, length-drop, length-set, drop-of-length-le}
 use lib.Seq.{sets, sets-eq, take-at, drop-append-add, drop-drop}
-use Rattle.model.specs.Sizes.{answerBytes, byteBound}
+use Rattle.model.specs.Sizes.{answerBytes, answerValueAt, byteBound}
 use Rattle.model.specs.Records.{wordBytes}
 use Rattle.model.specs.Step.{Answer}
 use Rattle.model.specs.Journal.{answerBytesOf, written, pasted, acceptedIn}
@@ -28,16 +28,16 @@ module _ (l : List ℕ) (a n v : ℕ) where
   l4 = set l3 (a + 3) 0
 
   abbrev l5 : List ℕ
-  l5 = set l4 (a + 4) (v % byteBound)
+  l5 = set l4 (a + answerValueAt) (v % byteBound)
 
   abbrev l6 : List ℕ
-  l6 = set l5 (a + 5) (v / byteBound % byteBound)
+  l6 = set l5 (a + answerValueAt + 1) (v / byteBound % byteBound)
 
   abbrev l7 : List ℕ
-  l7 = set l6 (a + 6) (v / byteBound ^ 2 % byteBound)
+  l7 = set l6 (a + answerValueAt + 2) (v / byteBound ^ 2 % byteBound)
 
   abbrev l8 : List ℕ
-  l8 = set l7 (a + 7) (v / byteBound ^ 3 % byteBound)
+  l8 = set l7 (a + answerValueAt + 3) (v / byteBound ^ 3 % byteBound)
 
   pub long1 : length l1 ≡ length l
   long1 = length-set l a n
@@ -52,23 +52,23 @@ module _ (l : List ℕ) (a n v : ℕ) where
   long4 = length-set l3 (a + 3) 0 ∙ long3
 
   pub long5 : length l5 ≡ length l
-  long5 = length-set l4 (a + 4) (v % byteBound) ∙ long4
+  long5 = length-set l4 (a + answerValueAt) (v % byteBound) ∙ long4
 
   pub long6 : length l6 ≡ length l
-  long6 = length-set l5 (a + 5) (v / byteBound % byteBound) ∙ long5
+  long6 = length-set l5 (a + answerValueAt + 1) (v / byteBound % byteBound) ∙ long5
 
   pub long7 : length l7 ≡ length l
-  long7 = length-set l6 (a + 6) (v / byteBound ^ 2 % byteBound) ∙ long6
+  long7 = length-set l6 (a + answerValueAt + 2) (v / byteBound ^ 2 % byteBound) ∙ long6
 
   pub stored : l8 ≡ sets l a (n ∷ 0 ∷ 0 ∷ 0 ∷ wordBytes v)
   stored =
       let e1 : a + 1 ≡ suc a = omega arith in
       let e2 : a + 2 ≡ suc (suc a) = omega arith in
       let e3 : a + 3 ≡ suc (suc (suc a)) = omega arith in
-      let e4 : a + 4 ≡ suc (suc (suc (suc a))) = omega arith in
-      let e5 : a + 5 ≡ suc (suc (suc (suc (suc a)))) = omega arith in
-      let e6 : a + 6 ≡ suc (suc (suc (suc (suc (suc a))))) = omega arith in
-      let e7 : a + 7 ≡ suc (suc (suc (suc (suc (suc (suc a)))))) = omega arith in
+      let e4 : a + answerValueAt ≡ suc (suc (suc (suc a))) = omega arith in
+      let e5 : a + answerValueAt + 1 ≡ suc (suc (suc (suc (suc a)))) = omega arith in
+      let e6 : a + answerValueAt + 2 ≡ suc (suc (suc (suc (suc (suc a))))) = omega arith in
+      let e7 : a + answerValueAt + 3 ≡ suc (suc (suc (suc (suc (suc (suc a)))))) = omega arith in
       cc (e1, e2, e3, e4, e5, e6, e7)
 
 -- a buffer of one answer holds that answer

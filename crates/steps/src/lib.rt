@@ -4,6 +4,7 @@ mod perform; // perform.rt: what an action does, and what it answers
 
 use host::Host;
 pub use part::ANSWER;
+pub use part::ANSWER_VALUE;
 pub use part::put_answer;
 pub use part::run;
 use perform::perform;

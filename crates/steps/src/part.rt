@@ -25,9 +25,12 @@ struct Moved {
     position: usize,
 }
 
+// An answer's bytes: number, three zeros, value low byte first.
 pub const ANSWER: usize = 8;
 
-// Number, three zeros, value low byte first.
+// where its value starts
+pub const ANSWER_VALUE: usize = 4;
+
 fn put(out: &mut [u8], at: usize, n: u8, v: u32)
     requires { ⌜ at + answerBytes ≤ length (now out) ⌝ }
     ensures { λ _. ⌜ now (out .exit) ≡ sets (now (out .entry)) at (n ∷ 0 ∷ 0 ∷ 0 ∷ wordBytes v) ⌝ }
@@ -36,10 +39,11 @@ fn put(out: &mut [u8], at: usize, n: u8, v: u32)
     out[at + 1] = 0;
     out[at + 2] = 0;
     out[at + 3] = 0;
-    out[at + 4] = (v % 256) as u8;
-    out[at + 5] = (v / 256 % 256) as u8;
-    out[at + 6] = (v / 65536 % 256) as u8;
-    out[at + 7] = (v / 16777216 % 256) as u8;
+    let value = at + ANSWER_VALUE;
+    out[value] = (v % 256) as u8;
+    out[value + 1] = (v / 256 % 256) as u8;
+    out[value + 2] = (v / 65536 % 256) as u8;
+    out[value + 3] = (v / 16777216 % 256) as u8;
 }
 
 // The answer, as answer i; 1 if it is done.

@@ -5,11 +5,11 @@ use Prim.Native.Nat.{_≤_, _-_}
 use native.Mathlib.Omega.{arith}
 use borrow.Author.Needs.{needs}
 use Rattle.laws.specs.Search.{someBelow}
+use Rattle.laws.proofs.Loops.{some-none, found-more}
 use Rattle.model.specs.Sizes.{addresses}
 use Rattle.host.specs.View.{view}
 use Rattle.host.proofs.Inverse.{view-sized}
 use Rattle.asks.specs.Maps.{entryThere}
-use Rattle.asks.proofs.Some.{some-none, found-more}
 use Rattle.asks.proofs.Maps.{by-row}
 use Rattle.asks.proofs.has_entries.Statement.{statement}
 use Rattle.asks.proofs.has_entries.Tie as tie

@@ -7,11 +7,11 @@ use native.Mathlib.Omega.{arith}
 use borrow.Author.Needs.{needs}
 use borrow.Author.Tests.{ne-eqb}
 use Rattle.laws.specs.Search.{someBelow}
+use Rattle.laws.proofs.Loops.{some-none, some-found, none-more}
 use Rattle.model.specs.Sizes.{pages}
 use Rattle.host.specs.View.{view}
 use Rattle.host.proofs.Inverse.{view-sized}
 use Rattle.asks.specs.Maps.{tableMaps, onlyAt}
-use Rattle.asks.proofs.Some.{some-none, some-hit, none-more}
 use Rattle.asks.proofs.Maps.{by-tables, mapped-past}
 use Rattle.asks.proofs.maps_at.Statement.{statement}
 use Rattle.asks.proofs.maps_at.Tie as tie
@@ -47,7 +47,7 @@ returns-2 c =
     let w = view-sized (a .h .now) (b .whole .ensures) in
     let s = view (a .h .now) .shape in
     let f = onlyAt (a .a .0) in
-    sym (some-hit (tableMaps s f (a .p .0)) pages (l .t) (omega arith) (sym (c .before .table-at .ensures) ∙ c .if2 .taken))
+    sym (some-found (tableMaps s f (a .p .0)) pages (l .t) (omega arith) (sym (c .before .table-at .ensures) ∙ c .if2 .taken))
     ∙ by-tables s f (a .p .0) (w .entry)
 
 add-t : tie.Need-add-t Inv-loop μ-loop

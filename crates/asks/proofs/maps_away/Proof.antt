@@ -6,11 +6,11 @@ use Prim.Native.Nat.{_≤_, _-_}
 use native.Mathlib.Omega.{arith}
 use borrow.Author.Needs.{needs}
 use Rattle.laws.specs.Search.{someBelow}
+use Rattle.laws.proofs.Loops.{some-none, some-found, none-more}
 use Rattle.model.specs.Sizes.{pages}
 use Rattle.host.specs.View.{view}
 use Rattle.host.proofs.Inverse.{view-sized}
 use Rattle.asks.specs.Maps.{tableMaps, butAt}
-use Rattle.asks.proofs.Some.{some-none, some-hit, none-more}
 use Rattle.asks.proofs.Maps.{by-tables}
 use Rattle.asks.proofs.maps_away.Statement.{statement}
 use Rattle.asks.proofs.maps_away.Tie as tie
@@ -39,7 +39,7 @@ returns c =
     let w = view-sized (a .h .now) (c .before .before .before .before .whole .ensures) in
     let s = view (a .h .now) .shape in
     let f = butAt (a .a .0) in
-    sym (some-hit (tableMaps s f (a .p .0)) pages (l .t) (omega arith) (sym (c .before .table-away .ensures) ∙ c .if1 .taken))
+    sym (some-found (tableMaps s f (a .p .0)) pages (l .t) (omega arith) (sym (c .before .table-away .ensures) ∙ c .if1 .taken))
     ∙ by-tables s f (a .p .0) (w .entry)
 
 add-t : tie.Need-add-t Inv-loop μ-loop

@@ -5,10 +5,10 @@ use Prim.Native.Nat.{_≤_, _-_}
 use native.Mathlib.Omega.{arith}
 use borrow.Author.Needs.{needs}
 use Rattle.laws.specs.Search.{someBelow}
+use Rattle.laws.proofs.Loops.{some-none, found-more}
 use Rattle.model.specs.Sizes.{addresses}
 use Rattle.host.specs.View.{view}
 use Rattle.asks.specs.Maps.{entryMaps, rowMaps, butAt}
-use Rattle.asks.proofs.Some.{some-none, found-more}
 use Rattle.asks.proofs.row_away.Statement.{statement}
 use Rattle.asks.proofs.row_away.Tie as tie
 

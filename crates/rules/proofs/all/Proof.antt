@@ -7,9 +7,9 @@ use native.Mathlib.Omega.{arith}
 use borrow.Author.Needs.{needs}
 use borrow.Author.Tests.{not-true, not-false}
 use Rattle.laws.specs.Search.{allBelow}
+use Rattle.laws.proofs.Loops.{all-none, all-more, all-fails}
 use Rattle.host.specs.View.{view}
 use Rattle.rules.specs.Tests.{test}
-use Rattle.seek.proofs.Loops.{all-none, all-more, all-fails}
 use Rattle.rules.proofs.all.Statement.{statement}
 use Rattle.rules.proofs.all.Tie as tie
 

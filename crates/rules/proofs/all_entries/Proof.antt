@@ -8,11 +8,11 @@ use native.Mathlib.Omega.{arith}
 use borrow.Author.Needs.{needs}
 use borrow.Author.Tests.{not-true, not-false}
 use Rattle.laws.specs.Search.{allBelow}
+use Rattle.laws.proofs.Loops.{all-none, all-more, all-fails}
 use Rattle.model.specs.Sizes.{pages, addresses}
 use Rattle.host.specs.View.{view}
 use Rattle.rules.specs.declared.EntryTest.{EntryTest}
 use Rattle.rules.specs.Tests.{entryTest}
-use Rattle.seek.proofs.Loops.{all-none, all-more, all-fails}
 use Rattle.rules.proofs.all_entries.Statement.{statement}
 use Rattle.rules.proofs.all_entries.Tie as tie
 

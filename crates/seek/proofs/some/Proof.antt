@@ -6,9 +6,9 @@ use Prim.Native.Nat.{_≤_, _-_}
 use native.Mathlib.Omega.{arith}
 use borrow.Author.Needs.{needs}
 use Rattle.laws.specs.Search.{someBelow}
+use Rattle.laws.proofs.Loops.{some-none, some-found, none-more}
 use Rattle.host.specs.View.{view}
 use Rattle.seek.specs.Leads.{sought}
-use Rattle.seek.proofs.Loops.{some-none, some-more, some-found}
 use Rattle.seek.proofs.some.Statement.{statement}
 use Rattle.seek.proofs.some.Tie as tie
 
@@ -40,7 +40,7 @@ loop-again : tie.Need-loop-again Inv-loop μ-loop
 loop-again c =
     let a = c .before .before .before .before .args in
     let l = c .before .before .before .loop in
-    (omega arith, some-more (sought (a .t) (view (a .h .now))) (l .i) (l .inv .1) (sym (c .before .seeks .ensures) ∙ c .if1 .left))
+    (omega arith, none-more (sought (a .t) (view (a .h .now))) (l .i) (l .inv .1) (sym (c .before .seeks .ensures) ∙ c .if1 .left))
 
 returns-2 : tie.Need-returns-2 Inv-loop μ-loop
 returns-2 c =

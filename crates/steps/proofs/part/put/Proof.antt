@@ -27,11 +27,11 @@ add-out-3 c = search needs
 slice-write-out-4 : tie.Need-slice-write-out-4
 slice-write-out-4 c = let a = c .args in omega (arith, long3 (a .out .now) (a .at) (a .n) (a .v))
 
+add-value : tie.Need-add-value
+add-value c = search needs
+
 cast-out : tie.Need-cast-out
 cast-out c = search needs
-
-add-out-4 : tie.Need-add-out-4
-add-out-4 c = search needs
 
 slice-write-out-5 : tie.Need-slice-write-out-5
 slice-write-out-5 c = let a = c .args in omega (arith, long4 (a .out .now) (a .at) (a .n) (a .v))
@@ -39,8 +39,8 @@ slice-write-out-5 c = let a = c .args in omega (arith, long4 (a .out .now) (a .a
 cast-out-2 : tie.Need-cast-out-2
 cast-out-2 c = search needs
 
-add-out-5 : tie.Need-add-out-5
-add-out-5 c = search needs
+add-out-4 : tie.Need-add-out-4
+add-out-4 c = search needs
 
 slice-write-out-6 : tie.Need-slice-write-out-6
 slice-write-out-6 c = let a = c .args in omega (arith, long5 (a .out .now) (a .at) (a .n) (a .v))
@@ -48,8 +48,8 @@ slice-write-out-6 c = let a = c .args in omega (arith, long5 (a .out .now) (a .a
 cast-out-3 : tie.Need-cast-out-3
 cast-out-3 c = search needs
 
-add-out-6 : tie.Need-add-out-6
-add-out-6 c = search needs
+add-out-5 : tie.Need-add-out-5
+add-out-5 c = search needs
 
 slice-write-out-7 : tie.Need-slice-write-out-7
 slice-write-out-7 c = let a = c .args in omega (arith, long6 (a .out .now) (a .at) (a .n) (a .v))
@@ -57,8 +57,8 @@ slice-write-out-7 c = let a = c .args in omega (arith, long6 (a .out .now) (a .a
 cast-out-4 : tie.Need-cast-out-4
 cast-out-4 c = search needs
 
-add-out-7 : tie.Need-add-out-7
-add-out-7 c = search needs
+add-out-6 : tie.Need-add-out-6
+add-out-6 c = search needs
 
 slice-write-out-8 : tie.Need-slice-write-out-8
 slice-write-out-8 c = let a = c .args in omega (arith, long7 (a .out .now) (a .at) (a .n) (a .v))
@@ -80,17 +80,17 @@ put-spec =
     slice-write-out-3
     add-out-3
     slice-write-out-4
+    add-value
     cast-out
-    add-out-4
     slice-write-out-5
     cast-out-2
-    add-out-5
+    add-out-4
     slice-write-out-6
     cast-out-3
-    add-out-6
+    add-out-5
     slice-write-out-7
     cast-out-4
-    add-out-7
+    add-out-6
     slice-write-out-8
     same-length
     returns)
