@@ -9,7 +9,7 @@ One theorem, `one-step` of crates/steps/proofs/Answers.antt, whole:
 
 It unfolds to `Steps` (crates/steps/specs/Promises.antt), `Past` (crates/history/specs/Past.antt); and of `model`: `State`, `sized`.
 """,
-    "docs/ARCHITECTURE.md": "| what | theorem |\n|---|---|\n| one answer | `host: Answers.one-answer`, `host: Sections.inside` |\n",
+    "docs/ARCHITECTURE.md": "| what | theorem |\n|---|---|\n| one answer | `laws: Answers.one-answer`, `host: Sections.inside` |\n",
     "docs/RULES.md": "## Edits that break a rule\n\n1 `a_rule_left_out`.\n",
     "docs/ANSWERS.md": """
 | reading | theorem |
@@ -38,18 +38,18 @@ It unfolds to `Steps` (crates/steps/specs/Promises.antt), `Past` (crates/history
 
 | function | theorem | ruled out | also ruled out | tried by |
 |---|---|---|---|---|
-| `host::whole` | `host: Answers.one-answer` | none: it answers nothing | nor a change | |
-| `host::owner` | `host: Answers.one-answer` | the kind | 0 always | steps: refuses_all |
-| `host::place` | `host: Answers.one-answer` | 0 | one more | |
+| `host::whole` | `laws: Answers.one-answer` | none: it answers nothing | nor a change | |
+| `host::owner` | `laws: Answers.one-answer` | the kind | 0 always | steps: refuses_all |
+| `host::place` | `laws: Answers.one-answer` | 0 | one more | |
 | `host::set_owner` | `host: Answers.one-content` | the kind stored | nothing stored | another_stored; model: a_size_less |
-| `host::Cursor::at` | `host: Answers.one-answer` | 0 | one more | |
+| `host::Cursor::at` | `laws: Answers.one-answer` | 0 | one more | |
 
 ## steps
 
 | function | theorem | ruled out | also ruled out | tried by |
 |---|---|---|---|---|
 | `steps::step` | `steps: Answers.one-step` | refuses all | does nothing | refuses_all |
-| `steps::put` | `host: Answers.one-answer` | one byte | no byte | |
+| `steps::put` | `laws: Answers.one-answer` | one byte | no byte | |
 
 ## ration
 
@@ -59,6 +59,11 @@ It unfolds to `Steps` (crates/steps/specs/Promises.antt), `Past` (crates/history
 """,
     "include/ration.h": "/* void ration_none(void); */\nvoid ration_step(uint8_t state[4]); /* a step */\n",
     "crates/laws/src/lib.rt": "",
+    "crates/laws/proofs/Answers.antt": """use mathlib.Core.Path.{_≡_, sym, _∙_}
+
+pub one-answer {ℓ} : {A : Type ℓ} (a x y : A) → x ≡ a → y ≡ a → x ≡ y
+one-answer a x y e f = e ∙ sym f
+""",
     "crates/laws/specs/Choice.antt": "use mathlib.Core.Bool.{Bool}\nuse mathlib.Core.List.{List}\nuse lib.ListN.{getD}\nabbrev pub pick : Bool\npick = true\n",
     "crates/model/src/lib.rt": "",
     "crates/model/specs/Sizes.antt": "use Prim.Native.Nat.{ℕ}\nuse lib.Dec.{eqb}\nabbrev pub pages : ℕ\npages = 64\n",
@@ -84,9 +89,6 @@ Past = List Action
     "crates/host/proofs/Sections.antt": "module _ (s : State) where\n  pub inside : s ≡ s\n  inside = refl\n\npub record Fields : Type 0 where\n  pub field : ℕ\n",
     "crates/host/proofs/Answers.antt": """use mathlib.Core.Path.{_≡_, sym, _∙_}
 use Rattle.host.specs.View.{view, Whole}
-
-pub one-answer {ℓ} : {A : Type ℓ} (a x y : A) → x ≡ a → y ≡ a → x ≡ y
-one-answer a x y e f = e ∙ sym f
 
 pub one-content : (s : State) (xs ys : List ℕ) → Whole xs → Whole ys → view xs ≡ s → view ys ≡ s → xs ≡ ys
 one-content s xs ys h k e f = view-inj xs ys h k (e ∙ sym f)
