@@ -1,7 +1,7 @@
 -- The samples pass, by computation. Records are judged without check 1, which `keeps` shows to apply nowhere here.
 -- Assumes nothing.
 use mathlib.Core.Path.{_≡_, refl}
-use mathlib.Core.Bool.{true}
+use mathlib.Core.Bool.{true, _&&_}
 use Rattle.laws.specs.Search.{firstFrom, seekFrom, listFrom}
 use Rattle.laws.specs.Bits.{bit, marked, unmarked}
 use Rattle.model.specs.State.{table, mapsPage, hitWay, lineOfPage, present}
@@ -24,9 +24,17 @@ use Rattle.model.specs.Unpin.{unpinStep}
 use Rattle.model.specs.Step.{ownChecks, refusal, next, value, act, judge}
 use Rattle.model.specs.Run.{runBy}
 use Rattle.model.specs.Journal.{hasHeader, formRefusal}
-use Rattle.model.specs.Samples.{passes, allPass, groupsPass, samples, nineRight, journalsPass, allSamples}
+use Rattle.model.specs.Samples.{passes, allPass, groupsPass, samples, nineRight, ninePlayed, journalsPass, allSamples}
+
+runs-pass : groupsPass judge samples && ninePlayed judge ≡ true
+unfolding firstFrom seekFrom listFrom bit marked unmarked table mapsPage hitWay lineOfPage present freshPages freshGuests freshCache fresh decode hasEntries lowestFree asked takeOut takeOutPage enter wayFor loadStealth accessWay missLine accessHistory readStep store writeStep share newStep newSmStep delStep switchStep lswitchStep hcallStep retCtrlStep chmodStep pinStep unpinStep ownChecks refusal next value act judge passes allPass groupsPass samples runBy nineRight
+runs-pass = refl
+
+journals-pass : journalsPass ≡ true
+unfolding seekFrom firstFrom hasHeader formRefusal journalsPass
+journals-pass = refl
 
 -- the whole table, one statement
 pub samples-pass : allSamples judge ≡ true
-unfolding firstFrom seekFrom listFrom bit marked unmarked table mapsPage hitWay lineOfPage present freshPages freshGuests freshCache fresh decode hasEntries lowestFree asked takeOut takeOutPage enter wayFor loadStealth accessWay missLine accessHistory readStep store writeStep share newStep newSmStep delStep switchStep lswitchStep hcallStep retCtrlStep chmodStep pinStep unpinStep ownChecks refusal next value act judge runBy hasHeader formRefusal passes allPass groupsPass samples nineRight journalsPass allSamples
-samples-pass = refl
+unfolding allSamples
+samples-pass = rw (runs-pass, journals-pass)

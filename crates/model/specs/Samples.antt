@@ -115,8 +115,9 @@ markIs p m s = eqb (at (s .shape .pages .cacheable) p) m
 abbrev pub lineIs : ℕ → ℕ → ℕ → ℕ → State → Bool
 lineIs i va p v s = eqb (at (s .shape .cache .lineAddress) i) va && eqb (at (s .shape .cache .linePage) i) (suc p) && eqb (at (s .values .line) i) v
 
+-- an empty place is all zero
 abbrev pub noLineAt : ℕ → State → Bool
-noLineAt i s = eqb (at (s .shape .cache .linePage) i) 0
+noLineAt i s = eqb (at (s .shape .cache .lineAddress) i) 0 && eqb (at (s .shape .cache .linePage) i) 0 && eqb (at (s .values .line) i) 0
 
 abbrev pub historyIs : ℕ → ℕ → State → Bool
 historyIs k h s = eqb (at (s .shape .cache .history) k) h
@@ -125,7 +126,7 @@ abbrev pub slotIs : ℕ → ℕ → ℕ → State → Bool
 slotIs i va p s = eqb (at (s .shape .tlb .slotAddress) i) va && eqb (at (s .shape .tlb .slotPage) i) (suc p)
 
 abbrev pub slotEmpty : ℕ → State → Bool
-slotEmpty i s = eqb (at (s .shape .tlb .slotPage) i) 0
+slotEmpty i s = eqb (at (s .shape .tlb .slotAddress) i) 0 && eqb (at (s .shape .tlb .slotPage) i) 0
 
 -- ---- document 01's rows marked P, and the sample runs that are not marked
 
@@ -297,6 +298,7 @@ checksInOrder =
     ∷ ending (pins 1 0 ++ pins 2 0 ++ unpins 1 ++ pins 3 0) (λ s. eqb (at (s .shape .pages .physical) 3) 9)
     ∷ []
 
+-- the longest run last
 unfoldable pub samples : List Group
 samples =
     after [] markedP
@@ -304,7 +306,7 @@ samples =
     ∷ after (nine ++ pins 2 1 ++ changesTable 2) sharingMends
     ∷ after (pins 1 0 ++ hides 1 ++ does (write 7 5)) stealthMends
     ∷ after (pins 1 0 ++ hides 1 ++ does (write 7 5) ++ pins 2 1 ++ changesTable 2) tableMends
-    ∷ after [] (evicting ++ pinningAll ++ keyMends ++ unused ++ checksInOrder)
+    ∷ after [] (unused ++ checksInOrder ++ evicting ++ keyMends ++ pinningAll)
     ∷ []
 
 -- ---- journals: their headers, their lengths at the edges, and the nine records whole
