@@ -104,15 +104,13 @@ change c n l = elim (eqb (c .column) n) [ true ↦ set l (c .place) (c .to (at l
 abbrev pub changeOne : Change → ℕ → ℕ → ℕ
 changeOne c n x = elim (eqb (c .column) n) [ true ↦ c .to x | false ↦ x ]
 
-unfoldable pub changed : State → List Change → State
-changed s [] = s
-changed s (c ∷ cs) =
+abbrev pub changedBy : State → Change → State
+changedBy s c =
     let P = s .shape .pages in
     let G = s .shape .guests in
     let C = s .shape .cache in
     let T = s .shape .tlb in
-    changed
-    (record {
+    record {
       shape =
           record {
             pages =
@@ -142,8 +140,11 @@ changed s (c ∷ cs) =
             tlb = record { slotAddress = change c 15 (T .slotAddress); slotPage = change c 16 (T .slotPage) };
           };
       values = record { memory = change c 17 (s .values .memory); line = change c 18 (s .values .line) };
-    })
-    cs
+    }
+
+unfoldable pub changed : State → List Change → State
+changed s [] = s
+changed s (c ∷ cs) = changed (changedBy s c) cs
 
 -- ---- a row: the rule it is about, whether that holds, every rule that is broken, and the changes
 

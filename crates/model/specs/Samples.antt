@@ -292,8 +292,8 @@ checksInOrder =
     ∷ row (does (hcall callLswitch 1 0) ++ gets 7 (lswitch 1))
     ∷ row (does (hcall callUnpin 1 0) ++ gets 7 (unpin 1))
     ∷ row (pins 1 0 ++ does (hcall callLswitch 1 0) ++ gets 8 (lswitch 1))
-    -- a table that is empty and not current is given back
-    ∷ row (pins 1 1 ++ unpins 1)
+    -- a table that is empty and not current is given back, and its address can be taken again
+    ∷ row (pins 1 1 ++ unpins 1 ++ pins 1 0)
     -- the lowest page that is free, not the next
     ∷ ending (pins 1 0 ++ pins 2 0 ++ unpins 1 ++ pins 3 0) (λ s. eqb (at (s .shape .pages .physical) 3) 9)
     ∷ []
