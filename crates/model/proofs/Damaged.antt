@@ -19,7 +19,7 @@ use Rattle.model.specs.Hcall.{hcallStep}
 use Rattle.model.specs.Chmod.{chmodStep}
 use Rattle.model.specs.Pin.{pinStep}
 use Rattle.model.specs.Step.{ownChecks, refusal, next, value, act, judge, step}
-use Rattle.model.specs.Journal.{journalRefusal}
+use Rattle.model.specs.Journal.{hasHeader, formRefusal, journalRefusal}
 use Rattle.model.specs.Samples.{passes}
 use Rattle.model.specs.Damage.{ruleTests, ruleTest, changed}
 use Rattle.model.specs.Damaged.{freshCalls, freshOwners, freshAddresses, freshMapped, freshNumbers, usedEntries, usedLines, usedSlots, allDamaged, damaged, seen, checkOneFirst}
@@ -36,5 +36,5 @@ unfolding firstFrom seekFrom listFrom bit marked unmarked table mapsPage hitWay 
 damage-seen = refl
 
 pub check-one-first : checkOneFirst ≡ true
-unfolding firstFrom seekFrom listFrom freshPages freshGuests freshCache fresh rule1? columns sized? valid? step journalRefusal changed checkOneFirst
+unfolding firstFrom seekFrom listFrom freshPages freshGuests freshCache fresh rule1? columns sized? valid? step hasHeader formRefusal journalRefusal changed checkOneFirst
 check-one-first = refl

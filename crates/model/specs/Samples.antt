@@ -196,6 +196,7 @@ lineMends =
     ∷ ending (maps 0 1) (λ s. slotEmpty 0 s && noLineAt 0 s && memoryIs 8 300 s)
     -- but not where the slot holds another address
     ∷ ending (deletes 16) (λ s. slotIs 0 0 8 s && lineIs 0 0 8 300 s)
+    ∷ ending (pins 2 0 ++ maps 8 2) (slotIs 0 0 8)
     -- a page not cacheable never enters the cache
     ∷ ending (maps 1 1 ++ yields 1 300 ++ does (write 1 7) ++ yields 0 7) (λ s. noLineAt 0 s && noLineAt 2 s && memoryIs 8 7 s)
     -- it is not cacheable until it is given back
@@ -261,8 +262,8 @@ tableMends =
 
 -- ---- further rows from the fresh machine: bytes that are no record, checks in their order, each number given
 
-abbrev pub unused : List Sample
-unused =
+abbrev pub badRecords : List Sample
+badRecords =
     -- a value, a call, a b and an a that are not used
     row (bad (1 ∷ 0 ∷ 0 ∷ 0 ∷ 1 ∷ 0 ∷ 0 ∷ 0 ∷ []) ++ bad (1 ∷ 0 ∷ 0 ∷ 0 ∷ 0 ∷ 0 ∷ 0 ∷ 1 ∷ []) ++ bad (10 ∷ 1 ∷ 0 ∷ 4 ∷ 1 ∷ 0 ∷ 0 ∷ 0 ∷ []))
     ∷ row (bad (1 ∷ 0 ∷ 0 ∷ 1 ∷ 0 ∷ 0 ∷ 0 ∷ 0 ∷ []) ++ bad (12 ∷ 0 ∷ 0 ∷ 1 ∷ 0 ∷ 0 ∷ 0 ∷ 0 ∷ []))
@@ -306,7 +307,7 @@ samples =
     ∷ after (nine ++ pins 2 1 ++ changesTable 2) sharingMends
     ∷ after (pins 1 0 ++ hides 1 ++ does (write 7 5)) stealthMends
     ∷ after (pins 1 0 ++ hides 1 ++ does (write 7 5) ++ pins 2 1 ++ changesTable 2) tableMends
-    ∷ after [] (unused ++ checksInOrder ++ evicting ++ keyMends ++ pinningAll)
+    ∷ after [] (badRecords ++ checksInOrder ++ evicting ++ keyMends ++ pinningAll)
     ∷ []
 
 -- ---- journals: their headers, their lengths at the edges, and the nine records whole
