@@ -16,7 +16,7 @@ use Rattle.model.specs.Records.{Bytes}
 use Rattle.model.specs.Valid.{Valid}
 use Rattle.model.specs.Step.{Outcome, numberOf, valueOf, judge, step}
 use Rattle.model.specs.Journal.{recordsOf}
-use Rattle.model.specs.Samples.{Exchange, Sample, passes, allPass, markedP, runs, stealthMends, lineMends, sharingMends, further, nineJournal, allSamples}
+use Rattle.model.specs.Samples.{Exchange, Sample, Group, passes, allPass, groupsPass, samples, nineJournal, allSamples}
 use Rattle.model.proofs.Samples.{samples-pass}
 use Rattle.keeps.proofs.Accepted.{step-judge}
 use Rattle.keeps.proofs.Fresh.{fresh-valid}
@@ -34,32 +34,13 @@ exchanges? : List Exchange → Bool
 exchanges? [] = true
 exchanges? (x ∷ xs) = bytes? (x .bytes) && exchanges? xs
 
-samples? : List Sample → Bool
-samples? [] = true
-samples? (x ∷ xs) = exchanges? (x .records) && samples? xs
+rows? : List Sample → Bool
+rows? [] = true
+rows? (x ∷ xs) = exchanges? (x .records) && rows? xs
 
--- ---- on a valid state the two steps pass the same
-
-after : Bool → Bool → Bool
-after b t = elim b [ true ↦ t | false ↦ false ]
-
-right : Exchange → Outcome → Bool
-right l o = eqb (numberOf (o .answer)) (l .number) && eqb (valueOf (o .answer)) (l .value)
-
-same-passes : (ls : List Exchange) (t : State → Bool) → exchanges? ls ≡ true → {s : State} → Valid s → passes step s ls t ≡ passes judge s ls t
-unfolding passes exchanges? after right
-same-passes [] t b v = refl
-same-passes (l ∷ ls) t b {s} v =
-    let d = and⇔ (bytes⇔ (l .bytes)) (true⇔ (exchanges? ls)) .0 b in
-    ap (λ (o : Outcome). after (right l o) (passes step (o .state) ls t)) (step-judge s (l .bytes) v)
-    ∙ ap (after (right l (judge s (l .bytes)))) (same-passes ls t (d .1) (judge-keeps v (l .bytes) (d .0)))
-
-same-all : (xs : List Sample) → samples? xs ≡ true → allPass step xs ≡ allPass judge xs
-unfolding allPass samples? after
-same-all [] b = refl
-same-all (x ∷ xs) b =
-    let d = and⇔ (true⇔ (exchanges? (x .records))) (true⇔ (samples? xs)) .0 b in
-    ap₂ after (same-passes (x .records) (x .end) (d .0) fresh-valid) (same-all xs (d .1))
+groups? : List Group → Bool
+groups? [] = true
+groups? (g ∷ gs) = exchanges? (g .start) && rows? (g .rows) && groups? gs
 
 records? : List (List ℕ) → Bool
 records? [] = true
@@ -70,31 +51,55 @@ unfolding records?
 are-bytes [] e = tt
 are-bytes (r ∷ rs) e = let d = and⇔ (bytes⇔ r) (true⇔ (records? rs)) .0 e in (d .0, are-bytes rs (d .1))
 
+-- ---- on a valid state the two steps pass the same
+
+after : Bool → Bool → Bool
+after b t = elim b [ true ↦ t | false ↦ false ]
+
+right : Exchange → Outcome → Bool
+right l o = eqb (numberOf (o .answer)) (l .number) && eqb (valueOf (o .answer)) (l .value)
+
+-- if the tests of the end, which may go on with more samples, pass the same on valid states
+same-passes : (ls : List Exchange) (t u : State → Bool) → ((s : State) → Valid s → t s ≡ u s) → exchanges? ls ≡ true → {s : State} → Valid s
+    → passes step s ls t ≡ passes judge s ls u
+unfolding passes exchanges? after right
+same-passes [] t u h b {s} v = h s v
+same-passes (l ∷ ls) t u h b {s} v =
+    let d = and⇔ (bytes⇔ (l .bytes)) (true⇔ (exchanges? ls)) .0 b in
+    ap (λ (o : Outcome). after (right l o) (passes step (o .state) ls t)) (step-judge s (l .bytes) v)
+    ∙ ap (after (right l (judge s (l .bytes)))) (same-passes ls t u h (d .1) (judge-keeps v (l .bytes) (d .0)))
+
+same-all : (xs : List Sample) → rows? xs ≡ true → {s : State} → Valid s → allPass step s xs ≡ allPass judge s xs
+unfolding allPass rows? after
+same-all [] b v = refl
+same-all (x ∷ xs) b v =
+    let d = and⇔ (true⇔ (exchanges? (x .records))) (true⇔ (rows? xs)) .0 b in
+    ap₂ after (same-passes (x .records) (x .end) (x .end) (λ r w. refl) (d .0) v) (same-all xs (d .1) v)
+
+same-groups : (gs : List Group) → groups? gs ≡ true → groupsPass step gs ≡ groupsPass judge gs
+unfolding groupsPass groups? after
+same-groups [] b = refl
+same-groups (g ∷ gs) b =
+    let d = and⇔ (and⇔ (true⇔ (exchanges? (g .start))) (true⇔ (rows? (g .rows)))) (true⇔ (groups? gs)) .0 b in
+    ap₂ after
+    (same-passes (g .start) (λ s. allPass step s (g .rows)) (λ s. allPass judge s (g .rows)) (λ r w. same-all (g .rows) (d .0 .1) w) (d .0 .0) fresh-valid)
+    (same-groups gs (d .1))
+
 -- ---- the table
 
-samples-bytes : (samples? markedP && samples? runs && samples? stealthMends && samples? lineMends && samples? sharingMends && samples? further
-    && records? (recordsOf nineJournal)) ≡ true
-unfolding samples? exchanges? records? seekFrom listFrom markedP runs stealthMends lineMends sharingMends further
+samples-bytes : groups? samples ≡ true
+unfolding groups? rows? exchanges? seekFrom samples
 samples-bytes = refl
+
+nine-bytes : records? (recordsOf nineJournal) ≡ true
+unfolding records? seekFrom listFrom
+nine-bytes = refl
 
 pub samples-pass-checked : allSamples step ≡ true
 unfolding allSamples
 samples-pass-checked =
-    let d =
-    and⇔
-    (and⇔
-    (and⇔
-    (and⇔ (and⇔ (and⇔ (true⇔ (samples? markedP)) (true⇔ (samples? runs))) (true⇔ (samples? stealthMends))) (true⇔ (samples? lineMends)))
-    (true⇔ (samples? sharingMends)))
-    (true⇔ (samples? further)))
-    (true⇔ (records? (recordsOf nineJournal))) .0 samples-bytes in
     rw (
-      same-all markedP (d .0 .0 .0 .0 .0 .0),
-      same-all runs (d .0 .0 .0 .0 .0 .1),
-      same-all stealthMends (d .0 .0 .0 .0 .1),
-      same-all lineMends (d .0 .0 .0 .1),
-      same-all sharingMends (d .0 .0 .1),
-      same-all further (d .0 .1),
-      run-judges fresh-valid (recordsOf nineJournal) (are-bytes (recordsOf nineJournal) (d .1)),
+      same-groups samples samples-bytes,
+      run-judges fresh-valid (recordsOf nineJournal) (are-bytes (recordsOf nineJournal) nine-bytes),
     )
     samples-pass

@@ -1,4 +1,5 @@
 pub mod Samples
+pub mod Damaged
 pub mod RuleTests
 pub mod Valid
 pub mod Records

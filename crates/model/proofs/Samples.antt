@@ -1,14 +1,12 @@
 -- The samples pass, by computation. Records are judged without check 1, which `keeps` shows to apply nowhere here.
 -- Assumes nothing.
 use mathlib.Core.Path.{_≡_, refl}
-use mathlib.Core.Bool.{true}
+use mathlib.Core.Bool.{true, _&&_}
 use Rattle.laws.specs.Search.{firstFrom, seekFrom, listFrom}
 use Rattle.laws.specs.Bits.{bit, marked, unmarked}
 use Rattle.model.specs.State.{table, mapsPage, hitWay, lineOfPage, present}
 use Rattle.model.specs.Fresh.{freshPages, freshGuests, freshCache, fresh}
 use Rattle.model.specs.Records.{decode}
-use Rattle.model.specs.RuleTests.{rule1?, rule2?, rule3?, rule4?, rule5?, mapsTwice, rule6?, rule7?, rule8?, rule9?, columns, rule10?}
-use Rattle.model.specs.Valid.{sized?, valid?}
 use Rattle.model.specs.Checks.{hasEntries, lowestFree, asked}
 use Rattle.model.specs.Parts.{takeOut, takeOutPage, enter, wayFor, loadStealth}
 use Rattle.model.specs.Read.{accessWay, missLine, accessHistory, readStep}
@@ -26,35 +24,11 @@ use Rattle.model.specs.Unpin.{unpinStep}
 use Rattle.model.specs.Step.{ownChecks, refusal, next, value, act, judge}
 use Rattle.model.specs.Run.{runBy}
 use Rattle.model.specs.Journal.{hasHeader, formRefusal}
-use Rattle.model.specs.Samples.{passes, allPass, markedP, runs, stealthMends, lineMends, sharingMends, further, nineRight, ninePlayed, journalsPass, allSamples}
+use Rattle.model.specs.Samples.{passes, allPass, groupsPass, samples, nineRight, ninePlayed, journalsPass, allSamples}
 
-markedP-pass : allPass judge markedP ≡ true
-unfolding firstFrom seekFrom listFrom bit marked unmarked table mapsPage hitWay lineOfPage present freshPages freshGuests freshCache fresh decode rule1? rule2? rule3? rule4? rule5? mapsTwice rule6? rule7? rule8? rule9? columns rule10? sized? valid? hasEntries lowestFree asked takeOut takeOutPage enter wayFor loadStealth accessWay missLine accessHistory readStep store writeStep share newStep newSmStep delStep switchStep lswitchStep hcallStep retCtrlStep chmodStep pinStep unpinStep ownChecks refusal next value act judge passes allPass markedP
-markedP-pass = refl
-
-runs-pass : allPass judge runs ≡ true
-unfolding firstFrom seekFrom listFrom bit marked unmarked table mapsPage hitWay lineOfPage present freshPages freshGuests freshCache fresh decode rule1? rule2? rule3? rule4? rule5? mapsTwice rule6? rule7? rule8? rule9? columns rule10? sized? valid? hasEntries lowestFree asked takeOut takeOutPage enter wayFor loadStealth accessWay missLine accessHistory readStep store writeStep share newStep newSmStep delStep switchStep lswitchStep hcallStep retCtrlStep chmodStep pinStep unpinStep ownChecks refusal next value act judge passes allPass runs
+runs-pass : groupsPass judge samples && ninePlayed judge ≡ true
+unfolding firstFrom seekFrom listFrom bit marked unmarked table mapsPage hitWay lineOfPage present freshPages freshGuests freshCache fresh decode hasEntries lowestFree asked takeOut takeOutPage enter wayFor loadStealth accessWay missLine accessHistory readStep store writeStep share newStep newSmStep delStep switchStep lswitchStep hcallStep retCtrlStep chmodStep pinStep unpinStep ownChecks refusal next value act judge passes allPass groupsPass samples runBy nineRight
 runs-pass = refl
-
-stealthMends-pass : allPass judge stealthMends ≡ true
-unfolding firstFrom seekFrom listFrom bit marked unmarked table mapsPage hitWay lineOfPage present freshPages freshGuests freshCache fresh decode rule1? rule2? rule3? rule4? rule5? mapsTwice rule6? rule7? rule8? rule9? columns rule10? sized? valid? hasEntries lowestFree asked takeOut takeOutPage enter wayFor loadStealth accessWay missLine accessHistory readStep store writeStep share newStep newSmStep delStep switchStep lswitchStep hcallStep retCtrlStep chmodStep pinStep unpinStep ownChecks refusal next value act judge passes allPass stealthMends
-stealthMends-pass = refl
-
-lineMends-pass : allPass judge lineMends ≡ true
-unfolding firstFrom seekFrom listFrom bit marked unmarked table mapsPage hitWay lineOfPage present freshPages freshGuests freshCache fresh decode rule1? rule2? rule3? rule4? rule5? mapsTwice rule6? rule7? rule8? rule9? columns rule10? sized? valid? hasEntries lowestFree asked takeOut takeOutPage enter wayFor loadStealth accessWay missLine accessHistory readStep store writeStep share newStep newSmStep delStep switchStep lswitchStep hcallStep retCtrlStep chmodStep pinStep unpinStep ownChecks refusal next value act judge passes allPass lineMends
-lineMends-pass = refl
-
-sharingMends-pass : allPass judge sharingMends ≡ true
-unfolding firstFrom seekFrom listFrom bit marked unmarked table mapsPage hitWay lineOfPage present freshPages freshGuests freshCache fresh decode rule1? rule2? rule3? rule4? rule5? mapsTwice rule6? rule7? rule8? rule9? columns rule10? sized? valid? hasEntries lowestFree asked takeOut takeOutPage enter wayFor loadStealth accessWay missLine accessHistory readStep store writeStep share newStep newSmStep delStep switchStep lswitchStep hcallStep retCtrlStep chmodStep pinStep unpinStep ownChecks refusal next value act judge passes allPass sharingMends
-sharingMends-pass = refl
-
-further-pass : allPass judge further ≡ true
-unfolding firstFrom seekFrom listFrom bit marked unmarked table mapsPage hitWay lineOfPage present freshPages freshGuests freshCache fresh decode rule1? rule2? rule3? rule4? rule5? mapsTwice rule6? rule7? rule8? rule9? columns rule10? sized? valid? hasEntries lowestFree asked takeOut takeOutPage enter wayFor loadStealth accessWay missLine accessHistory readStep store writeStep share newStep newSmStep delStep switchStep lswitchStep hcallStep retCtrlStep chmodStep pinStep unpinStep ownChecks refusal next value act judge passes allPass further
-further-pass = refl
-
-nine-pass : ninePlayed judge ≡ true
-unfolding firstFrom seekFrom listFrom bit marked unmarked table mapsPage hitWay lineOfPage present freshPages freshGuests freshCache fresh decode rule1? rule2? rule3? rule4? rule5? mapsTwice rule6? rule7? rule8? rule9? columns rule10? sized? valid? hasEntries lowestFree asked takeOut takeOutPage enter wayFor loadStealth accessWay missLine accessHistory readStep store writeStep share newStep newSmStep delStep switchStep lswitchStep hcallStep retCtrlStep chmodStep pinStep unpinStep ownChecks refusal next value act judge passes allPass runBy nineRight
-nine-pass = refl
 
 journals-pass : journalsPass ≡ true
 unfolding seekFrom firstFrom hasHeader formRefusal journalsPass
@@ -63,4 +37,4 @@ journals-pass = refl
 -- the whole table, one statement
 pub samples-pass : allSamples judge ≡ true
 unfolding allSamples
-samples-pass = rw (markedP-pass, runs-pass, stealthMends-pass, lineMends-pass, sharingMends-pass, further-pass, nine-pass, journals-pass)
+samples-pass = rw (runs-pass, journals-pass)

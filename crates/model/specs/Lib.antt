@@ -25,3 +25,5 @@ pub mod Step
 pub mod Run
 pub mod Journal
 pub mod Samples
+pub mod Damage
+pub mod Damaged

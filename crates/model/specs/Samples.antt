@@ -1,6 +1,6 @@
--- Document 01, "Sample runs", as one table: records from the fresh machine, the answer to each, and a test of the state at the end.
--- First the rows marked P, then the other runs; then rows of ours, at least one for each mend of the paper, and end states at which the ten
--- rules are tested.
+-- Document 01, "Sample runs", as one table: records from the fresh machine, the answer to each, and a test of the state at the end. Rows with
+-- the same beginning stand together, and it is run once.
+-- First the rows marked P, then the other runs, then rows of ours: at least one for each mend of the paper, and the checks in their order.
 -- The numbers here are document 01's own, spelled as it spells them.
 -- Assumes nothing.
 use mathlib.Core.Bool.{Bool, true, false, _&&_, Bool·beq}
@@ -13,8 +13,7 @@ use Rattle.laws.specs.Search.{allIn}
 use Rattle.model.specs.Sizes.{stealth}
 use Rattle.model.specs.State.{State, stealthLine}
 use Rattle.model.specs.Fresh.{fresh}
-use Rattle.model.specs.Records.{Action, silent, read, readHyper, write, writeHyper, new, newSm, del, switch, lswitch, hcall, retCtrl, chmod, pin, unpin, encode, wordBytes, callNew, callDel, callLswitch, callPin, callUnpin}
-use Rattle.model.specs.Valid.{valid?}
+use Rattle.model.specs.Records.{Action, silent, read, readHyper, write, writeHyper, new, newSm, del, switch, lswitch, hcall, retCtrl, chmod, pin, unpin, encode, wordBytes, callNone, callNew, callDel, callLswitch, callPin, callUnpin}
 use Rattle.model.specs.Step.{Outcome, numberOf, valueOf}
 use Rattle.model.specs.Run.{Ran, runBy}
 use Rattle.model.specs.Journal.{header, recordsOf, reportOf, played, hasHeader, formRefusal}
@@ -30,6 +29,11 @@ pub record Sample : Type 0 where
   pub records : List Exchange
   pub end : State → Bool
 
+-- samples that go on from one beginning
+pub record Group : Type 0 where
+  pub start : List Exchange
+  pub rows : List Sample
+
 -- the step answers each record as it must, and the state at the end passes the test
 unfoldable pub passes : (State → List ℕ → Outcome) → State → List Exchange → (State → Bool) → Bool
 passes f s [] t = t s
@@ -37,13 +41,17 @@ passes f s (l ∷ ls) t =
     let o = f s (l .bytes) in
     elim (eqb (numberOf (o .answer)) (l .number) && eqb (valueOf (o .answer)) (l .value)) [ true ↦ passes f (o .state) ls t | false ↦ false ]
 
-unfoldable pub allPass : (State → List ℕ → Outcome) → List Sample → Bool
-allPass f [] = true
-allPass f (x ∷ xs) = elim (passes f fresh (x .records) (x .end)) [ true ↦ allPass f xs | false ↦ false ]
+unfoldable pub allPass : (State → List ℕ → Outcome) → State → List Sample → Bool
+allPass f s [] = true
+allPass f s (x ∷ xs) = elim (passes f s (x .records) (x .end)) [ true ↦ allPass f s xs | false ↦ false ]
+
+unfoldable pub groupsPass : (State → List ℕ → Outcome) → List Group → Bool
+groupsPass f [] = true
+groupsPass f (g ∷ gs) = elim (passes f fresh (g .start) (λ s. allPass f s (g .rows))) [ true ↦ groupsPass f gs | false ↦ false ]
 
 -- ---- words to write samples with
 
--- an action that is done, one that is refused, and a read of a value
+-- an action that is done, one that is refused, a read of a value, and bytes that are no record
 abbrev pub does : Action → List Exchange
 does x = record { bytes = encode x; number = 0; value = 0 } ∷ []
 
@@ -52,6 +60,12 @@ gets n x = record { bytes = encode x; number = n; value = 0 } ∷ []
 
 abbrev pub yields : ℕ → ℕ → List Exchange
 yields va v = record { bytes = encode (read va); number = 0; value = v } ∷ []
+
+abbrev pub yieldsHyper : ℕ → ℕ → List Exchange
+yieldsHyper va v = record { bytes = encode (readHyper va); number = 0; value = v } ∷ []
+
+abbrev pub bad : List ℕ → List Exchange
+bad l = record { bytes = l; number = 2; value = 0 } ∷ []
 
 -- a guest's call, the host's act and the guest's turn again
 abbrev pub pins : ℕ → ℕ → List Exchange
@@ -80,12 +94,15 @@ abbrev pub pinsTo : ℕ → List Exchange
 pinsTo zero = []
 pinsTo (suc n) = pinsTo n ++ pins (suc n) 0
 
--- a sample with a test of its end, and one without
+-- a sample with a test of its end, and one without; samples with one beginning
 abbrev pub ending : List Exchange → (State → Bool) → Sample
 ending ls t = record { records = ls; end = t }
 
 abbrev pub row : List Exchange → Sample
 row ls = ending ls (λ s. true)
+
+abbrev pub after : List Exchange → List Sample → Group
+after ls xs = record { start = ls; rows = xs }
 
 -- ---- what is read at the end
 
@@ -98,8 +115,9 @@ markIs p m s = eqb (at (s .shape .pages .cacheable) p) m
 abbrev pub lineIs : ℕ → ℕ → ℕ → ℕ → State → Bool
 lineIs i va p v s = eqb (at (s .shape .cache .lineAddress) i) va && eqb (at (s .shape .cache .linePage) i) (suc p) && eqb (at (s .values .line) i) v
 
+-- an empty place is all zero
 abbrev pub noLineAt : ℕ → State → Bool
-noLineAt i s = eqb (at (s .shape .cache .linePage) i) 0
+noLineAt i s = eqb (at (s .shape .cache .lineAddress) i) 0 && eqb (at (s .shape .cache .linePage) i) 0 && eqb (at (s .values .line) i) 0
 
 abbrev pub historyIs : ℕ → ℕ → State → Bool
 historyIs k h s = eqb (at (s .shape .cache .history) k) h
@@ -108,9 +126,9 @@ abbrev pub slotIs : ℕ → ℕ → ℕ → State → Bool
 slotIs i va p s = eqb (at (s .shape .tlb .slotAddress) i) va && eqb (at (s .shape .tlb .slotPage) i) (suc p)
 
 abbrev pub slotEmpty : ℕ → State → Bool
-slotEmpty i s = eqb (at (s .shape .tlb .slotPage) i) 0
+slotEmpty i s = eqb (at (s .shape .tlb .slotAddress) i) 0 && eqb (at (s .shape .tlb .slotPage) i) 0
 
--- ---- document 01's rows marked P
+-- ---- document 01's rows marked P, and the sample runs that are not marked
 
 -- the nine records of "Journal and program"
 abbrev pub nine : List Exchange
@@ -125,15 +143,11 @@ nineBytes =
     ∷ 0x03 ∷ 0x00 ∷ 0x00 ∷ 0x00 ∷ 0x2C ∷ 0x01 ∷ 0x00 ∷ 0x00 ∷ 0x01 ∷ 0x00 ∷ 0x00 ∷ 0x00 ∷ 0x00 ∷ 0x00 ∷ 0x00 ∷ 0x00
     ∷ 0x01 ∷ 0x01 ∷ 0x00 ∷ 0x00 ∷ 0x00 ∷ 0x00 ∷ 0x00 ∷ 0x00 ∷ []
 
--- bytes that are no record
-abbrev pub bad : List ℕ → Sample
-bad l = row (record { bytes = l; number = 2; value = 0 } ∷ [])
-
-unfoldable pub markedP : List Sample
+abbrev pub markedP : List Sample
 markedP =
     row (does silent)
-    ∷ bad (0 ∷ 0 ∷ 0 ∷ 0 ∷ 0 ∷ 0 ∷ 0 ∷ 0 ∷ 0 ∷ [])
-    ∷ bad (15 ∷ 0 ∷ 0 ∷ 0 ∷ 0 ∷ 0 ∷ 0 ∷ 0 ∷ [])
+    ∷ row (bad (0 ∷ 0 ∷ 0 ∷ 0 ∷ 0 ∷ 0 ∷ 0 ∷ 0 ∷ 0 ∷ []))
+    ∷ row (bad (15 ∷ 0 ∷ 0 ∷ 0 ∷ 0 ∷ 0 ∷ 0 ∷ 0 ∷ []))
     ∷ row (gets 3 (unpin 15))
     ∷ row (gets 2 (unpin 16))
     ∷ row (gets 6 (read 46))
@@ -145,99 +159,155 @@ markedP =
     ∷ row (does retCtrl ++ does (switch 1) ++ gets 2 (switch 4))
     ∷ row (does (hcall callPin 0 0) ++ gets 10 (pin 0 0))
     ∷ row (does (hcall callUnpin 0 0) ++ gets 12 (unpin 0))
-    ∷ ending nine (λ s. memoryIs 8 0 s && lineIs 0 0 8 300 s && historyIs 0 1 s)
     ∷ []
 
--- ---- the sample runs that are not marked
+abbrev pub afterNine : List Sample
+afterNine =
+    ending [] (λ s. memoryIs 8 0 s && lineIs 0 0 8 300 s && historyIs 0 1 s && slotIs 0 0 8 s)
+    -- then mapping that page at 1 too; the TLB gets the pair of a page not cacheable too
+    ∷ ending (maps 1 1 ++ yields 1 300) (λ s. memoryIs 8 300 s && markIs 8 0 s && noLineAt 0 s && slotIs 1 1 8 s)
+    ∷ []
 
 -- pages at 0, 8, 16 used in turn, with a hit on the first in between: the third takes out the first all the same
-abbrev pub evicting : List Exchange
-evicting = pinsTo 3 ++ maps 0 1 ++ maps 8 2 ++ maps 16 3 ++ does (write 0 5) ++ yields 8 0 ++ yields 0 5 ++ yields 16 0
+abbrev pub evicting : List Sample
+evicting =
+    ending
+    (pinsTo 3 ++ maps 0 1 ++ maps 8 2 ++ maps 16 3 ++ does (write 0 5) ++ yields 8 0 ++ yields 0 5 ++ yields 16 0)
+    (λ s. memoryIs 8 5 s && lineIs 0 16 10 0 s && lineIs 1 8 9 0 s && historyIs 0 1 s)
+    ∷ []
 
--- 56 pins over all guests pass, the 57th is 11; after one unpin a pin passes
-abbrev pub pinningAll : List Exchange
+-- 56 pins over all guests pass, the 57th is 11, but 10 at an address that is taken; after one unpin a pin passes
+abbrev pub pinningAll : List Sample
 pinningAll =
-    pinsTo 15 ++ turnsTo 1 ++ pinsTo 15 ++ turnsTo 2 ++ pinsTo 15 ++ turnsTo 3 ++ pinsTo 11 ++ does (hcall callPin 12 0) ++ gets 11 (pin 12 0)
-    ++ does (switch 0) ++ does chmod ++ unpins 3 ++ pins 3 0
-
-unfoldable pub runs : List Sample
-runs =
-    ending (nine ++ maps 1 1 ++ yields 1 300) (λ s. memoryIs 8 300 s && markIs 8 0 s && noLineAt 0 s && valid? s)
-    ∷ ending evicting (λ s. memoryIs 8 5 s && lineIs 0 16 10 0 s && lineIs 1 8 9 0 s && historyIs 0 1 s && valid? s)
-    ∷ row pinningAll
+    row
+    (pinsTo 15 ++ turnsTo 1 ++ pinsTo 15 ++ turnsTo 2 ++ pinsTo 15 ++ turnsTo 3 ++ pinsTo 11 ++ does (hcall callPin 12 0) ++ gets 11 (pin 12 0)
+    ++ does (switch 0) ++ does chmod ++ does (hcall callPin 3 0) ++ gets 10 (pin 3 0) ++ does (switch 1) ++ does chmod ++ unpins 3 ++ pins 3 0)
     ∷ []
 
--- ---- the mends: of the stealth page, of new and del, of sharing and keys
+-- ---- the mends: of lines and sharing, after the nine records
 
-unfoldable pub stealthMends : List Sample
-stealthMends =
-    -- switch saves the stealth page before it loads: a switch to the same guest keeps a write to 7
-    ending (pins 1 0 ++ hides 1 ++ does (write 7 300) ++ turnsTo 0 ++ yields 7 300) valid?
-    ∷ row (pins 1 0 ++ hides 1 ++ does (write 7 300) ++ changesTable 0 ++ yields 7 300)
-    -- lswitch loads by the new table
-    ∷ ending (pins 1 0 ++ hides 1 ++ does (write 7 5) ++ pins 2 1 ++ changesTable 2 ++ gets 6 (read 7)) (λ s. noLineAt stealthLine s && valid? s)
-    ∷ row (pins 1 0 ++ hides 1 ++ does (write 7 5) ++ pins 2 1 ++ pins 3 0 ++ changesTable 2 ++ hides 3 ++ does (write 7 9) ++ changesTable 0 ++ yields 7 5
-    ++ changesTable 2 ++ yields 7 9)
-    -- new refuses a stealth page, whichever table maps it, a table and a host address
-    ∷ row (pins 1 0 ++ hides 1 ++ pins 2 1 ++ changesTable 2 ++ does (hcall callNew 0 1) ++ gets 9 (new 0 1))
-    ∷ row (pins 1 0 ++ hides 1 ++ does (hcall callNew 0 1) ++ gets 9 (new 0 1))
-    ∷ row (does (hcall callNew 0 0) ++ gets 8 (new 0 0))
-    ∷ row (pins 1 0 ++ does (hcall callNew 48 1) ++ gets 5 (new 48 1))
-    ∷ []
-
-unfoldable pub lineMends : List Sample
+abbrev pub lineMends : List Sample
 lineMends =
-    -- del and new write a dirty line back
-    ending (nine ++ deletes 0) (λ s. memoryIs 8 300 s && noLineAt 0 s && valid? s)
-    ∷ ending (nine ++ deletes 0 ++ maps 9 1 ++ yields 9 300 ++ deletes 9) valid?
-    ∷ ending (nine ++ pins 2 0 ++ maps 0 2 ++ yields 0 0) (λ s. memoryIs 8 300 s && lineIs 0 0 9 0 s && valid? s)
+    -- del and new write a dirty line back, and a line that is taken out leaves the history
+    ending (deletes 0) (λ s. memoryIs 8 300 s && noLineAt 0 s && historyIs 0 1 s)
+    ∷ row (deletes 0 ++ maps 9 1 ++ yields 9 300 ++ deletes 9)
+    ∷ ending (pins 2 0 ++ maps 0 2 ++ yields 0 0) (λ s. memoryIs 8 300 s && lineIs 0 0 9 0 s)
+    -- also where the page is the same, and the TLB entry goes
+    ∷ ending (maps 0 1) (λ s. slotEmpty 0 s && noLineAt 0 s && memoryIs 8 300 s)
+    -- but not where the slot holds another address
+    ∷ ending (deletes 16) (λ s. slotIs 0 0 8 s && lineIs 0 0 8 300 s)
+    ∷ ending (pins 2 0 ++ maps 8 2) (slotIs 0 0 8)
+    -- a page not cacheable never enters the cache
+    ∷ ending (maps 1 1 ++ yields 1 300 ++ does (write 1 7) ++ yields 0 7) (λ s. noLineAt 0 s && noLineAt 2 s && memoryIs 8 7 s)
+    -- it is not cacheable until it is given back
+    ∷ ending (maps 1 1 ++ deletes 1) (markIs 8 0)
+    ∷ ending (maps 1 1 ++ deletes 0 ++ deletes 1 ++ unpins 1) (λ s. markIs 8 1 s && memoryIs 8 0 s)
+    -- the TLB is emptied though guest or table is the same
+    ∷ ending (turnsTo 1) (slotEmpty 0)
+    ∷ ending (turnsTo 0) (slotEmpty 0)
+    ∷ ending (changesTable 0) (slotEmpty 0)
+    -- read_hyper and write_hyper do as read and write, and the host keeps control
+    ∷ ending (pins 2 0 ++ maps 1 2 ++ does retCtrl ++ yieldsHyper 0 300 ++ yieldsHyper 1 0 ++ gets 3 (read 0))
+    (λ s. lineIs 2 1 9 0 s && historyIs 1 1 s && slotIs 1 1 9 s)
+    ∷ ending (pins 2 0 ++ maps 1 2 ++ does retCtrl ++ does (writeHyper 1 70000) ++ yieldsHyper 1 70000)
+    (λ s. lineIs 2 1 9 70000 s && memoryIs 9 0 s && historyIs 1 1 s && slotIs 1 1 9 s)
+    -- new_sm of a page that is mapped elsewhere; of one that is mapped nowhere and not cacheable
+    ∷ row (does (hcall callNew 7 1) ++ gets 9 (newSm 1))
+    ∷ row (maps 1 1 ++ deletes 0 ++ deletes 1 ++ does (hcall callNew 7 1) ++ gets 9 (newSm 1))
+    -- unpin of a page that a table maps
+    ∷ row (does (hcall callUnpin 1 0) ++ gets 12 (unpin 1))
+    ∷ []
+
+-- with a second table: sharing is looked for in all tables; the same address in two tables is not sharing
+abbrev pub sharingMends : List Sample
+sharingMends =
+    ending (maps 0 1 ++ yields 0 300) (markIs 8 1)
+    ∷ ending (maps 1 1 ++ yields 1 300) (markIs 8 0)
+    -- unpin of a table with entries that is not current
+    ∷ row (does (hcall callUnpin 0 0) ++ gets 12 (unpin 0))
+    ∷ []
+
+-- two guests' pages at one address are two lines
+abbrev pub keyMends : List Sample
+keyMends =
+    ending
+    (pins 1 0 ++ maps 0 1 ++ turnsTo 1 ++ pins 1 0 ++ maps 0 1 ++ turnsTo 0 ++ does (write 0 300) ++ turnsTo 1 ++ yields 0 0 ++ does (write 0 30)
+    ++ turnsTo 0 ++ yields 0 300)
+    (λ s. lineIs 0 0 8 300 s && lineIs 1 0 9 30 s)
+    ∷ []
+
+-- ---- the mends of the stealth page, after one was hidden at physical 1 and written
+
+abbrev pub stealthMends : List Sample
+stealthMends =
+    ending [] (λ s. slotIs 7 7 8 s && lineIs stealthLine 7 8 5 s && memoryIs 8 0 s && historyIs 7 0 s)
+    -- switch and lswitch save it before they load: with the same guest or table the write stays
+    ∷ row (turnsTo 0 ++ yields 7 5)
+    ∷ row (changesTable 0 ++ yields 7 5)
+    -- del takes it out as any other line
+    ∷ ending (deletes 7 ++ gets 6 (read 7)) (λ s. noLineAt stealthLine s && memoryIs 8 5 s && slotEmpty 7 s && historyIs 7 0 s)
+    -- new refuses it; new_sm refuses a second one, the same page too, but 9 comes before 10
+    ∷ row (does (hcall callNew 0 1) ++ gets 9 (new 0 1))
+    ∷ row (does (hcall callNew 7 1) ++ gets 10 (newSm 1))
+    ∷ row (pins 2 0 ++ maps 0 2 ++ does (hcall callNew 7 2) ++ gets 9 (newSm 2))
+    ∷ []
+
+-- with a second table in force: lswitch loads by the new table, and new looks in every table
+abbrev pub tableMends : List Sample
+tableMends =
+    ending (gets 6 (read 7)) (noLineAt stealthLine)
+    ∷ row (pins 3 0 ++ hides 3 ++ does (write 7 9) ++ changesTable 0 ++ yields 7 5 ++ changesTable 2 ++ yields 7 9)
+    ∷ row (does (hcall callNew 0 1) ++ gets 9 (new 0 1))
+    ∷ []
+
+-- ---- further rows from the fresh machine: bytes that are no record, checks in their order, each number given
+
+abbrev pub badRecords : List Sample
+badRecords =
+    -- a value, a call, a b and an a that are not used
+    row (bad (1 ∷ 0 ∷ 0 ∷ 0 ∷ 1 ∷ 0 ∷ 0 ∷ 0 ∷ []) ++ bad (1 ∷ 0 ∷ 0 ∷ 0 ∷ 0 ∷ 0 ∷ 0 ∷ 1 ∷ []) ++ bad (10 ∷ 1 ∷ 0 ∷ 4 ∷ 1 ∷ 0 ∷ 0 ∷ 0 ∷ []))
+    ∷ row (bad (1 ∷ 0 ∷ 0 ∷ 1 ∷ 0 ∷ 0 ∷ 0 ∷ 0 ∷ []) ++ bad (12 ∷ 0 ∷ 0 ∷ 1 ∷ 0 ∷ 0 ∷ 0 ∷ 0 ∷ []))
+    ∷ row (bad (1 ∷ 0 ∷ 1 ∷ 0 ∷ 0 ∷ 0 ∷ 0 ∷ 0 ∷ []) ++ bad (10 ∷ 0 ∷ 1 ∷ 2 ∷ 0 ∷ 0 ∷ 0 ∷ 0 ∷ []) ++ bad (10 ∷ 0 ∷ 1 ∷ 0 ∷ 0 ∷ 0 ∷ 0 ∷ 0 ∷ []))
+    ∷ row (bad (0 ∷ 1 ∷ 0 ∷ 0 ∷ 0 ∷ 0 ∷ 0 ∷ 0 ∷ []) ++ bad (10 ∷ 1 ∷ 0 ∷ 0 ∷ 0 ∷ 0 ∷ 0 ∷ 0 ∷ []))
+    -- no such call; a pin of no kind; new_sm at 8; too few bytes
+    ∷ row (bad (10 ∷ 0 ∷ 0 ∷ 6 ∷ 0 ∷ 0 ∷ 0 ∷ 0 ∷ []) ++ bad (13 ∷ 1 ∷ 2 ∷ 0 ∷ 0 ∷ 0 ∷ 0 ∷ 0 ∷ []) ++ bad (6 ∷ 8 ∷ 1 ∷ 0 ∷ 0 ∷ 0 ∷ 0 ∷ 0 ∷ []))
+    ∷ row (bad (0 ∷ 0 ∷ 0 ∷ 0 ∷ 0 ∷ 0 ∷ 0 ∷ []) ++ bad [])
+    ∷ []
+
+abbrev pub checksInOrder : List Sample
+checksInOrder =
+    row (does (hcall callNew 48 9) ++ gets 5 (new 48 9))
+    -- the pending call is exactly this one, by number, a and b; new_sm's is new
+    ∷ row (does (hcall callNew 7 9) ++ gets 5 (new 7 9) ++ gets 7 (newSm 9) ++ gets 4 (new 8 9) ++ gets 4 (pin 9 0) ++ gets 4 chmod ++ gets 4 (switch 0))
+    ∷ row (does (hcall callNew 7 9) ++ gets 4 (newSm 8) ++ gets 4 (new 7 8))
+    ∷ row (does (hcall callPin 1 0) ++ gets 4 (pin 1 1) ++ gets 4 (unpin 1) ++ does (pin 1 0) ++ gets 4 (pin 1 0))
+    -- hcall none stores none, and gives the host control
+    ∷ row (does (hcall callNone 0 0) ++ gets 3 (read 0) ++ gets 4 (pin 0 0) ++ does chmod ++ gets 3 chmod)
     -- read_hyper, write and write_hyper check the address too
     ∷ row (gets 5 (write 15 1) ++ gets 6 (write 0 1) ++ does retCtrl ++ gets 5 (readHyper 15) ++ gets 6 (readHyper 0) ++ gets 5 (writeHyper 63 1)
     ++ gets 6 (writeHyper 0 1))
-    -- a page not cacheable never enters the cache
-    ∷ ending (nine ++ maps 1 1 ++ yields 1 300 ++ does (write 1 7) ++ yields 0 7) (λ s. noLineAt 0 s && noLineAt 2 s && memoryIs 8 7 s && valid? s)
-    ∷ []
-
-unfoldable pub sharingMends : List Sample
-sharingMends =
-    -- sharing is looked for in all tables; the same address in two tables is not sharing
-    ending (nine ++ pins 2 1 ++ changesTable 2 ++ maps 0 1 ++ yields 0 300) (λ s. markIs 8 1 s && valid? s)
-    ∷ ending (nine ++ pins 2 1 ++ changesTable 2 ++ maps 1 1 ++ yields 1 300) (λ s. markIs 8 0 s && valid? s)
-    -- two guests' pages at one address are two lines, and the TLB is emptied between them
-    ∷ ending (nine ++ turnsTo 1) (λ s. slotEmpty 0 s && valid? s)
-    ∷ ending
-    (pins 1 0 ++ maps 0 1 ++ turnsTo 1 ++ pins 1 0 ++ maps 0 1 ++ turnsTo 0 ++ does (write 0 300) ++ turnsTo 1 ++ yields 0 0 ++ does (write 0 30)
-    ++ turnsTo 0 ++ yields 0 300)
-    (λ s. lineIs 0 0 8 300 s && lineIs 1 0 9 30 s && valid? s)
-    ∷ []
-
--- ---- further rows: checks in their order, each number given, and pages given back
-
-unfoldable pub further : List Sample
-further =
-    row (does (hcall callNew 48 9) ++ gets 5 (new 48 9))
-    ∷ row (does (hcall callNew 7 9) ++ gets 5 (new 7 9) ++ gets 7 (newSm 9) ++ gets 4 (new 8 9) ++ gets 4 (pin 9 0) ++ gets 4 chmod ++ gets 4 (switch 0))
+    -- del of an address that is not mapped passes, of a reserved one does not
+    ∷ row (deletes 0 ++ deletes 7 ++ does (hcall callDel 15 0) ++ gets 5 (del 15))
+    ∷ row (does (hcall callNew 0 0) ++ gets 8 (new 0 0))
     ∷ row (does (hcall callNew 7 0) ++ gets 8 (newSm 0))
-    ∷ row (nine ++ does (hcall callNew 7 1) ++ gets 9 (newSm 1))
-    ∷ row (pins 1 0 ++ hides 1 ++ does (hcall callNew 7 1) ++ gets 10 (newSm 1))
     ∷ row (does (hcall callLswitch 1 0) ++ gets 7 (lswitch 1))
-    ∷ row (pins 1 0 ++ does (hcall callLswitch 1 0) ++ gets 8 (lswitch 1))
-    ∷ row (nine ++ does (hcall callUnpin 1 0) ++ gets 12 (unpin 1))
     ∷ row (does (hcall callUnpin 1 0) ++ gets 7 (unpin 1))
-    -- a shared page that is given back is cacheable again
-    ∷ ending (nine ++ maps 1 1 ++ deletes 0 ++ deletes 1 ++ unpins 1) (λ s. markIs 8 1 s && memoryIs 8 0 s && valid? s)
-    -- and not before
-    ∷ ending (nine ++ maps 1 1 ++ deletes 1) (markIs 8 0)
-    -- the TLB gets the pair, and is emptied or loses it though the table or the page is the same
-    ∷ ending nine (slotIs 0 0 8)
-    ∷ ending (pins 1 0 ++ hides 1) (slotIs 7 7 8)
-    ∷ ending (nine ++ turnsTo 0) (slotEmpty 0)
-    ∷ ending (nine ++ changesTable 0) (slotEmpty 0)
-    ∷ ending (nine ++ maps 0 1) (λ s. slotEmpty 0 s && noLineAt 0 s && memoryIs 8 300 s)
-    -- a line that is taken out leaves the history
-    ∷ ending (nine ++ deletes 0) (historyIs 0 1)
+    ∷ row (pins 1 0 ++ does (hcall callLswitch 1 0) ++ gets 8 (lswitch 1))
+    -- a table that is empty and not current is given back, and its address can be taken again
+    ∷ row (pins 1 1 ++ unpins 1 ++ pins 1 0)
     -- the lowest page that is free, not the next
     ∷ ending (pins 1 0 ++ pins 2 0 ++ unpins 1 ++ pins 3 0) (λ s. eqb (at (s .shape .pages .physical) 3) 9)
+    ∷ []
+
+-- the longest run last
+unfoldable pub samples : List Group
+samples =
+    after [] markedP
+    ∷ after nine (afterNine ++ lineMends)
+    ∷ after (nine ++ pins 2 1 ++ changesTable 2) sharingMends
+    ∷ after (pins 1 0 ++ hides 1 ++ does (write 7 5)) stealthMends
+    ∷ after (pins 1 0 ++ hides 1 ++ does (write 7 5) ++ pins 2 1 ++ changesTable 2) tableMends
+    ∷ after [] (badRecords ++ checksInOrder ++ evicting ++ keyMends ++ pinningAll)
     ∷ []
 
 -- ---- journals: their headers, their lengths at the edges, and the nine records whole
@@ -246,6 +316,11 @@ further =
 abbrev pub headers : List (List ℕ × Bool)
 headers =
     ([], false)
+    ∷ (81 ∷ 80 ∷ 74 ∷ 1 ∷ 0 ∷ 0 ∷ 0 ∷ 0 ∷ [], false)
+    ∷ (82 ∷ 81 ∷ 74 ∷ 1 ∷ 0 ∷ 0 ∷ 0 ∷ 0 ∷ [], false)
+    ∷ (82 ∷ 80 ∷ 75 ∷ 1 ∷ 0 ∷ 0 ∷ 0 ∷ 0 ∷ [], false)
+    ∷ (82 ∷ 80 ∷ 74 ∷ 1 ∷ 0 ∷ 1 ∷ 0 ∷ 0 ∷ [], false)
+    ∷ (82 ∷ 80 ∷ 74 ∷ 1 ∷ 0 ∷ 0 ∷ 1 ∷ 0 ∷ [], false)
     ∷ (82 ∷ 80 ∷ 74 ∷ 1 ∷ 0 ∷ 0 ∷ 0 ∷ [], false)
     ∷ (82 ∷ 80 ∷ 74 ∷ 2 ∷ 0 ∷ 0 ∷ 0 ∷ 0 ∷ [], false)
     ∷ (82 ∷ 80 ∷ 74 ∷ 1 ∷ 1 ∷ 0 ∷ 0 ∷ 0 ∷ [], false)
@@ -299,6 +374,4 @@ journalsPass =
 -- ---- the table passes, for a step that answers records
 
 unfoldable pub allSamples : (State → List ℕ → Outcome) → Bool
-allSamples f =
-    allPass f markedP && allPass f runs && allPass f stealthMends && allPass f lineMends && allPass f sharingMends && allPass f further && ninePlayed f
-    && journalsPass
+allSamples f = groupsPass f samples && ninePlayed f && journalsPass
