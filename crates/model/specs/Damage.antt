@@ -164,7 +164,7 @@ with n others cs = record { rule = n; holds = false; broken = n ∷ others; chan
 abbrev pub spares : ℕ → List ℕ → List Change → Damage
 spares n others cs = record { rule = n; holds = true; broken = others; changes = cs }
 
--- the first numbers that are no owner, lead nowhere and are no physical address
+-- the first number that is no owner, and the first that leads nowhere
 abbrev pub noOwner : ℕ
 noOwner = ownerGuest guests
 
