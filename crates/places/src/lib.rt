@@ -97,7 +97,7 @@ pub fn page_kept(h: &Host, p: Ma) -> bool
 fn held_by(h: &Host, g: Guest, a: Pa, p: Ma) -> bool
     ensures { λ r. ⌜ r ≡ heldBy (view (now (h .entry))) (g .0) (a .0) (p .0) ⌝ }
 {
-    let again = seek::some(h, seek::Sought::HeldAgain(g, a, p), PHYSICALS);
+    let again = seek::held(h, seek::Sought::HeldAgain(g, a, p));
     (host::owner(h, p) as usize == FIRST_GUEST + g.0 as usize) & !again
 }
 
@@ -122,7 +122,7 @@ pub fn registered(h: &Host, p: Ma) -> bool
     }
     let g = o - OWNER_GUEST;
     if g < GUESTS {
-        seek::some(h, seek::Sought::HeldAt(Guest(g), p), PHYSICALS)
+        seek::held(h, seek::Sought::HeldAt(Guest(g), p))
     } else {
         true
     }

@@ -59,7 +59,7 @@ const GUESTS: u8 = host::GUESTS as u8;
 
 const STEALTH: u8 = host::STEALTH;
 
-pub const PIN_KINDS: u8 = 2;
+const PIN_KINDS: u8 = 2;
 
 const WRITE: u8 = 3;
 
