@@ -14,7 +14,7 @@ use Rattle.model.specs.Read.{readStep}
 use Rattle.model.specs.Write.{store, writeStep}
 use Rattle.model.specs.NewSm.{newSmStep}
 use Rattle.model.specs.Valid.{Sized}
-use Rattle.host.specs.declared.Ma.{Ma}
+use Rattle.numbers.specs.declared.Ma.{Ma}
 use Rattle.host.specs.declared.Lead.{Lead}
 use Rattle.host.specs.declared.Lead.the-variants.{To, Nowhere}
 use Rattle.host.specs.Lead.{toward}

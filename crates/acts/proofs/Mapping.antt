@@ -12,7 +12,7 @@ use Rattle.model.specs.Sizes.{pages, ways, setOf}
 use Rattle.model.specs.State.{Shape, State, isPage, mapped, hitWay, noLine, lineAt, lineOf}
 use Rattle.model.specs.Parts.{shaped, loseMark, takeOutPage}
 use Rattle.model.specs.New.{oldLine, isShared}
-use Rattle.host.specs.declared.Ma.{Ma}
+use Rattle.numbers.specs.declared.Ma.{Ma}
 use Rattle.host.specs.declared.Lead.{Lead}
 use Rattle.host.specs.declared.Lead.the-variants.{To, Nowhere}
 use Rattle.host.specs.Lead.{toward}

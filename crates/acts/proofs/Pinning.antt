@@ -3,12 +3,11 @@
 use mathlib.Core.Path.{_≡_, sym, ap, _∙_}
 use mathlib.Core.Bool.{true}
 use Prim.Native.Nat.{ℕ, suc, _+_, _*_, _<_}
-use native.Mathlib.Numerals.{add-one}
 use Rattle.laws.specs.Choice.{pick, _⇔_}
 use Rattle.laws.specs.Bits.{marked, unmarked}
 use Rattle.laws.proofs.Cases.{pick-yes, pick-not}
 use Rattle.laws.proofs.Tests.{lt⇔, and⇔, not-so}
-use Rattle.model.specs.Sizes.{guests, physicals, pages, pinKinds}
+use Rattle.model.specs.Sizes.{guests, physicals, pages}
 use Rattle.model.specs.Names.{ownerNone, kindNone}
 use Rattle.model.specs.State.{State, active, isPage}
 use Rattle.model.specs.Checks.{lowestFree}
@@ -38,15 +37,15 @@ module _ (s : State) (a g p : ℕ) (q : g ≡ active (s .shape)) (h : p < pages)
   unfolding unpinStep put putFree putMemory renewed
   back = rw (q, page)
 
-  over : (k : ℕ) → idle (unmarking p (placing (pick (isPage p) (suc p) 0) (renewed s p (2 + g) (k + 1)))) ≡ pinStep s a k p
+  over : (k : ℕ) → idle (unmarking p (placing (pick (isPage p) (suc p) 0) (renewed s p (2 + g) (suc k)))) ≡ pinStep s a k p
   unfolding pinStep put putFree putMemory renewed
-  over k = rw (q, page, add-one k)
+  over k = rw (q, page)
 
   pub given-back : (t u v w : State) → t ≡ renewed s p ownerNone kindNone → u ≡ placing 0 t → v ≡ marking p u → w ≡ idle v
       → w ≡ unpinStep s a p
   given-back t u v w d e f k = k ∙ ap idle (f ∙ ap (marking p) (e ∙ ap (placing 0) d)) ∙ back
 
-  pub taken-over : (k : ℕ) (t u v w : State) → t ≡ renewed s p (2 + g) (k + 1) → u ≡ placing (pick (isPage p) (suc p) 0) t
+  pub taken-over : (k : ℕ) (t u v w : State) → t ≡ renewed s p (2 + g) (suc k) → u ≡ placing (pick (isPage p) (suc p) 0) t
       → v ≡ unmarking p u
       → w ≡ idle v
       → w ≡ pinStep s a k p
@@ -57,11 +56,11 @@ module _ (s : State) (a g p : ℕ) (q : g ≡ active (s .shape)) (h : p < pages)
 
 module _ (s : State) (a k : ℕ) where
   abbrev Range : Type 0
-  Range = ((active (s .shape) < guests) × (k < pinKinds)) × (lowestFree (s .shape .pages .free) < pages)
+  Range = (active (s .shape) < guests) × (lowestFree (s .shape .pages .free) < pages)
 
-  range⇔ : pinnable s k (lowestFree (s .shape .pages .free)) ⇔ Range
+  range⇔ : pinnable s (lowestFree (s .shape .pages .free)) ⇔ Range
   range⇔ =
-      and⇔ (and⇔ (lt⇔ (active (s .shape)) guests) (lt⇔ k pinKinds)) (lt⇔ (lowestFree (s .shape .pages .free)) pages)
+      and⇔ (lt⇔ (active (s .shape)) guests) (lt⇔ (lowestFree (s .shape .pages .free)) pages)
 
   -- in range it is the model's step
   pub pinned-is : Range → pinned s a k ≡ pinStep s a k (lowestFree (s .shape .pages .free))
@@ -75,7 +74,7 @@ module _ (s : State) (a k : ℕ) where
   unfolding pinned
   pinned-not n = sym (pick-not (pinStep s a k (lowestFree (s .shape .pages .free))) s (not-so range⇔ n))
 
-  -- on a valid state, of a kind in range, with a free page
-  pub pinned-valid : Valid s → k < pinKinds → isPage (lowestFree (s .shape .pages .free)) ≡ true
+  -- on a valid state with a free page
+  pub pinned-valid : Valid s → isPage (lowestFree (s .shape .pages .free)) ≡ true
       → pinned s a k ≡ pinStep s a k (lowestFree (s .shape .pages .free))
-  pinned-valid v h e = pinned-is ((v .rule10 .guests .active, h), lt⇔ (lowestFree (s .shape .pages .free)) pages .0 e)
+  pinned-valid v e = pinned-is (v .rule10 .guests .active, lt⇔ (lowestFree (s .shape .pages .free)) pages .0 e)

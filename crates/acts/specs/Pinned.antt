@@ -4,20 +4,20 @@ use mathlib.Core.Bool.{Bool, _&&_}
 use Prim.Native.Nat.{ℕ}
 use lib.Dec.{ltb}
 use Rattle.laws.specs.Choice.{pick}
-use Rattle.model.specs.Sizes.{guests, pinKinds}
+use Rattle.model.specs.Sizes.{guests}
 use Rattle.model.specs.State.{State, active, isPage}
 use Rattle.model.specs.Checks.{lowestFree}
 use Rattle.model.specs.Pin.{pinStep}
 use Rattle.host.specs.View.{put, putMemory, ownerField, kindField, cacheableField}
 
--- The active guest and the kind asked for are in range, so that what is stored for them is a byte, and p is a page.
-abbrev pub pinnable : State → ℕ → ℕ → Bool
-pinnable s k p = ltb (active (s .shape)) guests && ltb k pinKinds && isPage p
+-- The active guest is in range, so that what is stored for it is a byte, and p is a page.
+abbrev pub pinnable : State → ℕ → Bool
+pinnable s p = ltb (active (s .shape)) guests && isPage p
 
 -- pin with the lowest page that is free
 unfoldable pub pinned : State → ℕ → ℕ → State
 pinned s a k =
-    pick (pinnable s k (lowestFree (s .shape .pages .free))) (pinStep s a k (lowestFree (s .shape .pages .free))) s
+    pick (pinnable s (lowestFree (s .shape .pages .free))) (pinStep s a k (lowestFree (s .shape .pages .free))) s
 
 -- page p has owner o and kind k, is cacheable and holds 0
 unfoldable pub renewed : State → ℕ → ℕ → ℕ → State

@@ -1,4 +1,5 @@
 // The small parts that steps are made of.
+use host::Call;
 use host::Guest;
 use host::Host;
 use host::Lead;
@@ -12,6 +13,7 @@ ghost use Rattle.model.specs.State.{isPage};
 ghost use Rattle.model.specs.Parts.{shaped, setEntry, loseMark, setCall, clearCall, setSlot, translate, forget, emptied};
 ghost use Rattle.host.specs.View.{view};
 ghost use Rattle.host.specs.Lead.{heldOf};
+ghost use Rattle.host.specs.Calls.{bytesOf};
 ghost use Rattle.acts.specs.Pinned.{renewed};
 
 // ---- pages
@@ -41,13 +43,11 @@ pub(crate) fn renew(h: &mut Host, p: Ma, o: u8, k: u8)
 
 // ---- calls
 
-// The pending call of guest g is c with a and b.
-pub fn set_pending(h: &mut Host, g: Guest, c: u8, a: u8, b: u8)
-    ensures { λ _. ⌜ view (now (h .exit)) ≡ shaped (view (now (h .entry))) (setCall (view (now (h .entry)) .shape) (g .0) c a b) ⌝ }
+// The pending call of guest g is x.
+pub fn set_pending(h: &mut Host, g: Guest, x: Call)
+    ensures { λ _. ⌜ view (now (h .exit)) ≡ shaped (view (now (h .entry))) (setCall (view (now (h .entry)) .shape) (g .0) (bytesOf x .number) (bytesOf x .a) (bytesOf x .b)) ⌝ }
 {
-    host::set_call(h, g, c);
-    host::set_call_a(h, g, a);
-    host::set_call_b(h, g, b);
+    host::set_pending(h, g, x)
 }
 
 // The active guest's.
@@ -55,7 +55,7 @@ pub fn clear_call(h: &mut Host)
     ensures { λ _. ⌜ view (now (h .exit)) ≡ shaped (view (now (h .entry))) (clearCall (view (now (h .entry)) .shape)) ⌝ }
 {
     let g = host::active(h);
-    set_pending(h, g, 0, 0, 0)
+    set_pending(h, g, Call::None)
 }
 
 // ---- the TLB

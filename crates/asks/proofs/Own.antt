@@ -12,7 +12,7 @@ use Rattle.model.specs.Sizes.{pages, stealth, reserved}
 use Rattle.model.specs.Names.{kindData, kindTable}
 use Rattle.model.specs.State.{Shape, active, isPage, kindOf, isCacheable, mapped, isMapped}
 use Rattle.model.specs.Checks.{Check, first, hasEntries}
-use Rattle.host.specs.declared.Ma.{Ma}
+use Rattle.numbers.specs.declared.Ma.{Ma}
 use Rattle.host.specs.declared.Lead.{Lead}
 use Rattle.host.specs.declared.Lead.the-variants.{To, Nowhere}
 use Rattle.host.specs.Lead.{toward, placeOf}

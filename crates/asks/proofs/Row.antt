@@ -1,121 +1,124 @@
 -- Checks 3 and 4: what a row needs, by its number, and what follows from the row's refusal.
 -- Assumes nothing.
 use mathlib.Core.Path.{_≡_, refl, sym, ap, _∙_}
-use mathlib.Core.Bool.{Bool, true, false, _&&_, _||_, not}
-use mathlib.Core.List.{List}
+use mathlib.Core.Bool.{Bool, true, false, _||_, not}
+use mathlib.Core.List.{[], _∷_}
 use Prim.Native.Nat.{ℕ}
 use native.Mathlib.Omega.{arith}
-use lib.Dec.{eqb, ltb}
+use lib.Dec.{eqb}
 use lib.ListN.{List·getD-eq-default}
 use borrow.Author.Tests.{eq-eqb, ne-eqb}
-use Rattle.laws.specs.Choice.{pick, at}
-use Rattle.laws.specs.Search.{seekFrom, allIn}
+use Rattle.laws.specs.Choice.{pick}
 use Rattle.laws.proofs.Cases.{below?}
-use Rattle.laws.proofs.Tests.{and⇔, lt⇔}
-use Rattle.laws.proofs.Search.{at-entry}
-use Rattle.model.specs.Sizes.{kinds, calls}
-use Rattle.model.specs.State.{Shape, active}
-use Rattle.model.specs.Records.{Action, Need, nothing, exactly, activeIdle, namedIdle, rows, rowSilent, rowOf, anyMode}
-use Rattle.model.specs.Records as records
+use Rattle.model.specs.Sizes.{calls}
+use Rattle.model.specs.State.{Shape}
+use Rattle.model.specs.Records.{nothing, activeIdle, namedIdle, rowOf, anyMode, fieldsOf}
 use Rattle.model.specs.Checks.{Asked, asked, first, hasCall, wrongMode, wrongCall}
 use Rattle.model.specs.Step.{ownChecks, refusal}
+use Rattle.host.specs.declared.calls.Call.the-variants.{None}
+use Rattle.host.proofs.Others.{Others, none-left}
 use Rattle.records.specs.declared.Row.{Row}
+use Rattle.records.specs.declared.Action.{Action}
+use Rattle.records.specs.declared.Action.the-variants.{Silent, Read, ReadHyper, Write, WriteHyper, New, NewSm, Del, Switch, Lswitch, Hcall, RetCtrl, Chmod, Pin, Unpin}
 use Rattle.records.specs.Table.{needOf, rowTo}
 use Rattle.asks.specs.declared.Named.{Named}
-use Rattle.asks.specs.Actions.{nameOf}
-use Rattle.asks.specs.Refusals.{otherCall, wrongCallBy, rowRefusal}
-
--- ---- the active guest's call
-
-module _ (h : Shape) (c a b : ℕ) {g : ℕ} (e : g ≡ active h) where
-  there : (l : List ℕ) {x : ℕ} → x ≡ at l g → x ≡ at l (active h)
-  there l f = f ∙ ap (at l) e
-
-  pub call-other : {x : ℕ} → x ≡ at (h .guests .call) g → (x ≡ c → ⊥) → true ≡ otherCall (asked h) c a b
-  unfolding asked
-  call-other f n = rw (ne-eqb (at (h .guests .call) (active h)) c (λ q. n (there (h .guests .call) f ∙ q)))
-
-  pub a-other : {x y : ℕ} → x ≡ at (h .guests .call) g → x ≡ c → y ≡ at (h .guests .callA) g → (y ≡ a → ⊥) → true ≡ otherCall (asked h) c a b
-  unfolding asked
-  a-other f p k n =
-      rw
-      (eq-eqb (at (h .guests .call) (active h)) c (sym (there (h .guests .call) f) ∙ p), ne-eqb (at (h .guests .callA) (active h)) a (λ q. n (there (h .guests .callA) k ∙ q)))
-
-  pub b-other : {x y z : ℕ} → x ≡ at (h .guests .call) g → x ≡ c → y ≡ at (h .guests .callA) g → y ≡ a → z ≡ at (h .guests .callB) g
-      → not (eqb z b) ≡ otherCall (asked h) c a b
-  unfolding asked
-  b-other f p k q l =
-      rw
-      (eq-eqb (at (h .guests .call) (active h)) c (sym (there (h .guests .call) f) ∙ p), eq-eqb (at (h .guests .callA) (active h)) a (sym (there (h .guests .callA) k) ∙ q))
-      (ap (λ (v : ℕ). not (eqb v b)) (there (h .guests .callB) l))
+use Rattle.asks.specs.Actions.{actionFrom, nameOf}
+use Rattle.asks.specs.Refusals.{otherCall, neededBy, wrongCallBy, rowRefusal}
 
 -- ---- what a row needs
 
-module _ (q : Asked) (n a b : ℕ) where
-  pub by-nothing : n ≡ needOf nothing → false ≡ wrongCallBy q n a b
+-- a number that is no call's asks for none
+pub none-needed : (n : ℕ) (x : Named) → Others n 5 → None ≡ neededBy n x
+none-needed n x r =
+    below? n calls (λ h. ap (λ (m : ℕ). neededBy m x) (sym (none-left n 5 r (omega arith)))) (λ h. rw (List·getD-eq-default _ _ h))
+
+module _ (q : Asked) (n : ℕ) (x : Named) where
+  pub by-nothing : n ≡ needOf nothing → false ≡ wrongCallBy q n x
   unfolding wrongCallBy
   by-nothing e = rw (eq-eqb n (needOf nothing) e)
 
   module _ (z : n ≡ needOf nothing → ⊥) where
-    pub by-active : {r : Bool} → n ≡ needOf activeIdle → r ≡ hasCall q (q .active) → r ≡ wrongCallBy q n a b
+    pub by-active : {r : Bool} → n ≡ needOf activeIdle → r ≡ hasCall q (q .active) → r ≡ wrongCallBy q n x
     unfolding wrongCallBy
     by-active e f = rw (ne-eqb n (needOf nothing) z, eq-eqb n (needOf activeIdle) e) f
 
-    pub by-named : {r : Bool} → (n ≡ needOf activeIdle → ⊥) → n ≡ needOf namedIdle → r ≡ hasCall q a → r ≡ wrongCallBy q n a b
+    pub by-named : {r : Bool} → (n ≡ needOf activeIdle → ⊥) → n ≡ needOf namedIdle → r ≡ hasCall q (x .4 .0) → r ≡ wrongCallBy q n x
     unfolding wrongCallBy
     by-named y e f = rw (ne-eqb n (needOf nothing) z, ne-eqb n (needOf activeIdle) y, eq-eqb n (needOf namedIdle) e) f
 
-    pub by-call : {r : Bool} → (n ≡ needOf activeIdle → ⊥) → (n ≡ needOf namedIdle → ⊥) → r ≡ otherCall q n a b → r ≡ wrongCallBy q n a b
+    pub by-call : {r : Bool} → (n ≡ needOf activeIdle → ⊥) → (n ≡ needOf namedIdle → ⊥) → r ≡ otherCall q (neededBy n x) → r ≡ wrongCallBy q n x
     unfolding wrongCallBy
-    by-call y x f = rw (ne-eqb n (needOf nothing) z, ne-eqb n (needOf activeIdle) y, ne-eqb n (needOf namedIdle) x) f
-
--- a call that a row asks for is one
-known : Need → Bool
-known nothing = true
-known (exactly c) = ltb 0 c && ltb c calls
-known activeIdle = true
-known namedIdle = true
-
-all-known : allIn (λ i r. known (r .need)) rows ≡ true
-unfolding known seekFrom
-all-known = refl
-
-by-need : (q : Asked) (n : Need) (a b : ℕ) → known n ≡ true → wrongCallBy q (needOf n) a b ≡ wrongCall q n a b
-unfolding wrongCallBy known
-by-need q nothing a b e = refl
-by-need q (exactly c) a b e =
-    let k = and⇔ (lt⇔ 0 c) (lt⇔ c calls) .0 e in
-    rw (ne-eqb c (needOf nothing) (λ z. omega (arith, k .0)), ne-eqb c (needOf activeIdle) (λ z. omega (arith, k .1)), ne-eqb c (needOf namedIdle) (λ z. omega (arith, k .1)))
-by-need q activeIdle a b e = refl
-by-need q namedIdle a b e = refl
-
-known-of : (k : ℕ) → known (rowOf k .need) ≡ true
-unfolding known
-known-of k =
-    below? k kinds (λ h. at-entry (λ i r. known (r .need)) rowSilent rows all-known k h)
-    (λ h. ap (λ (r : records.Row). known (r .need)) (List·getD-eq-default rows rowSilent h))
+    by-call y w f = rw (ne-eqb n (needOf nothing) z, ne-eqb n (needOf activeIdle) y, ne-eqb n (needOf namedIdle) w) f
 
 -- ---- both checks
 
-module _ (q : Asked) (k a b : ℕ) (w : Row) (e : w ≡ rowTo (rowOf k)) {x : Bool} (f : x ≡ not (eqb (w .mode) anyMode || eqb (w .mode) (q .mode))) where
-  mode-is : x ≡ wrongMode q (rowOf k)
+module _ (q : Asked) (x : Named) (w : Row) (e : w ≡ rowTo (rowOf (x .0))) {m : Bool} (f : m ≡ not (eqb (w .mode) anyMode || eqb (w .mode) (q .mode))) where
+  mode-is : m ≡ wrongMode q (rowOf (x .0))
   mode-is = rw e at f
 
-  pub row-mode : x ≡ true → 3 ≡ rowRefusal q k a b
+  pub row-mode : m ≡ true → 3 ≡ rowRefusal q x
   unfolding rowRefusal
   row-mode t = rw (sym mode-is ∙ t)
 
-  module _ (t : x ≡ false) {y : Bool} (g : y ≡ wrongCallBy q (w .need) a b) where
-    call-is : y ≡ wrongCall q (rowOf k .need) a b
-    call-is = (rw e at g) ∙ by-need q (rowOf k .need) a b (known-of k)
+  module _ (t : m ≡ false) {y : Bool} (g : y ≡ wrongCallBy q (w .need) x) where
+    call-is : y ≡ wrongCallBy q (needOf (rowOf (x .0) .need)) x
+    call-is = rw e at g
 
-    pub row-call : y ≡ true → 4 ≡ rowRefusal q k a b
+    pub row-call : y ≡ true → 4 ≡ rowRefusal q x
     unfolding rowRefusal
     row-call u = rw (sym mode-is ∙ t, sym call-is ∙ u)
 
-    pub row-passed : y ≡ false → 0 ≡ rowRefusal q k a b
+    pub row-passed : y ≡ false → 0 ≡ rowRefusal q x
     unfolding rowRefusal
     row-passed u = rw (sym mode-is ∙ t, sym call-is ∙ u)
+
+-- ---- what an action names is what its record's a and b say
+
+-- check 4 of an action, in the model's numbers
+abbrev wrong : Asked → Action → Bool
+wrong q x =
+    let f = fieldsOf (actionFrom x) in
+    wrongCall q (rowOf (f .kind) .need) (f .a) (f .b)
+
+by-need : (q : Asked) (x : Action) → wrongCallBy q (needOf (rowOf (nameOf x .0) .need)) (nameOf x) ≡ wrong q x
+unfolding wrongCallBy
+by-need q Silent = refl
+by-need q (Read a) = refl
+by-need q (ReadHyper a) = refl
+by-need q (Write a v) = refl
+by-need q (WriteHyper a v) = refl
+by-need q (New a p) = refl
+by-need q (NewSm p) = refl
+by-need q (Del a) = refl
+by-need q (Switch g) = refl
+by-need q (Lswitch p) = refl
+by-need q (Hcall c) = refl
+by-need q RetCtrl = refl
+by-need q Chmod = refl
+by-need q (Pin p k) = refl
+by-need q (Unpin p) = refl
+
+kind-named : (x : Action) → nameOf x .0 ≡ fieldsOf (actionFrom x) .kind
+kind-named Silent = refl
+kind-named (Read a) = refl
+kind-named (ReadHyper a) = refl
+kind-named (Write a v) = refl
+kind-named (WriteHyper a v) = refl
+kind-named (New a p) = refl
+kind-named (NewSm p) = refl
+kind-named (Del a) = refl
+kind-named (Switch g) = refl
+kind-named (Lswitch p) = refl
+kind-named (Hcall c) = refl
+kind-named RetCtrl = refl
+kind-named Chmod = refl
+kind-named (Pin p k) = refl
+kind-named (Unpin p) = refl
+
+row-is : (q : Asked) (x : Action) → rowRefusal q (nameOf x)
+    ≡ first ((3, wrongMode q (rowOf (fieldsOf (actionFrom x) .kind))) ∷ (4, wrong q x) ∷ [])
+unfolding rowRefusal
+row-is q x = rw (by-need q x, kind-named x)
 
 -- ---- then the action's own
 
@@ -129,20 +132,20 @@ goes-on true y t r o e z f = absurd (omega arith)
 goes-on false true t r o e z f = absurd (omega arith)
 goes-on false false t r o e z f = f
 
-module _ (h : Shape) (x : Action) (n : Named) (e : n ≡ nameOf x) {r : ℕ} (f : r ≡ rowRefusal (asked h) (n .0) (n .1) (n .2)) where
+module _ (h : Shape) (x : Action) (n : Named) (e : n ≡ nameOf x) {r : ℕ} (f : r ≡ rowRefusal (asked h) n) where
   abbrev own : ℕ
-  own = first (ownChecks (asked h) x)
+  own = first (ownChecks (asked h) (actionFrom x))
 
   abbrev mode? : Bool
-  mode? = wrongMode (asked h) (rowOf (nameOf x .0))
+  mode? = wrongMode (asked h) (rowOf (fieldsOf (actionFrom x) .kind))
 
-  abbrev call? : Bool
-  call? = wrongCall (asked h) (rowOf (nameOf x .0) .need) (nameOf x .1) (nameOf x .2)
+  row-refuses : r ≡ pick mode? 3 (pick (wrong (asked h) x) 4 0)
+  row-refuses = f ∙ ap (rowRefusal (asked h)) e ∙ row-is (asked h) x
 
-  pub refused-row : (r ≡ 0 → ⊥) → r ≡ refusal h x
-  unfolding refusal rowRefusal
-  refused-row z = stops mode? call? own r (rw e at f) z
+  pub refused-row : (r ≡ 0 → ⊥) → r ≡ refusal h (actionFrom x)
+  unfolding refusal
+  refused-row z = stops mode? (wrong (asked h) x) own r row-refuses z
 
-  pub refused-own : {o : ℕ} → r ≡ 0 → o ≡ own → o ≡ refusal h x
-  unfolding refusal rowRefusal
-  refused-own {o} z g = goes-on mode? call? own r o (rw e at f) z g
+  pub refused-own : {o : ℕ} → r ≡ 0 → o ≡ own → o ≡ refusal h (actionFrom x)
+  unfolding refusal
+  refused-own {o} z g = goes-on mode? (wrong (asked h) x) own r o row-refuses z g

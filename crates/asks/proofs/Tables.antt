@@ -12,7 +12,7 @@ use Rattle.laws.proofs.Cases.{split, below?, pick-both}
 use Rattle.model.specs.Sizes.{physicals, pages}
 use Rattle.model.specs.Names.{kindTable}
 use Rattle.model.specs.State.{Shape, lead, nowhere, active, tableAt, table}
-use Rattle.host.specs.declared.Ma.{Ma}
+use Rattle.numbers.specs.declared.Ma.{Ma}
 use Rattle.host.specs.declared.Lead.{Lead}
 use Rattle.host.specs.declared.Lead.the-variants.{To, Nowhere}
 use Rattle.host.specs.Lead.{toward, leadOf}

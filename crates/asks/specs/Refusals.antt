@@ -4,30 +4,39 @@ use mathlib.Core.Bool.{Bool, true, false, _&&_, _||_, not}
 use mathlib.Core.List.{List, [], _∷_}
 use Prim.Native.Nat.{ℕ}
 use lib.Dec.{eqb}
+use lib.ListN.{getD}
 use Rattle.laws.specs.Choice.{pick, at}
 use Rattle.model.specs.Sizes.{stealth}
 use Rattle.model.specs.Names.{kindData, kindTable}
 use Rattle.model.specs.State.{Shape, active, isPage, kindOf, isCacheable, mapped}
 use Rattle.model.specs.Records.{nothing, activeIdle, namedIdle, rowOf}
-use Rattle.model.specs.Checks.{Asked, Check, first, hasCall, wrongMode, wrongCall, hasEntries}
+use Rattle.model.specs.Checks.{Asked, Check, first, hasCall, wrongMode, hasEntries}
 use Rattle.records.specs.Table.{needOf}
+use Rattle.host.specs.declared.calls.Call.{Call}
+use Rattle.host.specs.declared.calls.Call.the-variants.{None, New, Del, Lswitch, Pin, Unpin}
+use Rattle.host.specs.Calls.{callBytes, bytesOf, sameBytes}
+use Rattle.asks.specs.declared.Named.{Named}
 use Rattle.asks.specs.Maps.{mapsPageOf, onlyAt, butAt}
 
 -- ---- the row
 
--- the active guest's call is not c with a and b
-abbrev pub otherCall : Asked → ℕ → ℕ → ℕ → Bool
-otherCall q c a b = not (eqb (q .call (q .active)) c && eqb (q .callA (q .active)) a && eqb (q .callB (q .active)) b)
+-- the active guest's call is not exactly x
+abbrev pub otherCall : Asked → Call → Bool
+otherCall q x = not (sameBytes (callBytes (q .call (q .active)) (q .callA (q .active)) (q .callB (q .active))) (bytesOf x))
+
+-- the call numbered n, with what x names
+abbrev pub neededBy : ℕ → Named → Call
+neededBy n x = getD (None ∷ New (x .1) (x .2) ∷ Del (x .1) ∷ Lswitch (x .2) ∷ Pin (x .2) (x .3) ∷ Unpin (x .2) ∷ []) n None
 
 -- check 4, by the number of what the row needs
-unfoldable pub wrongCallBy : Asked → ℕ → ℕ → ℕ → Bool
-wrongCallBy q n a b =
+unfoldable pub wrongCallBy : Asked → ℕ → Named → Bool
+wrongCallBy q n x =
     pick (eqb n (needOf nothing)) false
-    (pick (eqb n (needOf activeIdle)) (hasCall q (q .active)) (pick (eqb n (needOf namedIdle)) (hasCall q a) (otherCall q n a b)))
+    (pick (eqb n (needOf activeIdle)) (hasCall q (q .active)) (pick (eqb n (needOf namedIdle)) (hasCall q (x .4 .0)) (otherCall q (neededBy n x))))
 
--- checks 3 and 4 of kind k with a and b
-unfoldable pub rowRefusal : Asked → ℕ → ℕ → ℕ → ℕ
-rowRefusal q k a b = first ((3, wrongMode q (rowOf k)) ∷ (4, wrongCall q (rowOf k .need) a b) ∷ [])
+-- checks 3 and 4 of an action of this kind that names this
+unfoldable pub rowRefusal : Asked → Named → ℕ
+rowRefusal q x = first ((3, wrongMode q (rowOf (x .0))) ∷ (4, wrongCallBy q (needOf (rowOf (x .0) .need)) x) ∷ [])
 
 -- ---- checks of the page at a physical address, where there is one
 

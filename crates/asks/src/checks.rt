@@ -8,6 +8,12 @@ use super::maps_at;
 use super::maps_away;
 use super::reserved;
 use host::CACHEABLE;
+use host::CALL_DEL;
+use host::CALL_LSWITCH;
+use host::CALL_NEW;
+use host::CALL_PIN;
+use host::CALL_UNPIN;
+use host::Call;
 use host::Guest;
 use host::Host;
 use host::KIND_DATA;
@@ -15,6 +21,7 @@ use host::KIND_TABLE;
 use host::Lead;
 use host::Ma;
 use host::Pa;
+use host::PinKind;
 use host::STEALTH;
 use host::Va;
 use records::Action;
@@ -35,9 +42,7 @@ ghost use Rattle.model.specs.Step.{ownChecks, refusal};
 ghost use Rattle.host.specs.View.{view};
 ghost use Rattle.asks.specs.Leads.{leads};
 ghost use Rattle.asks.specs.Actions.{actionFrom, nameOf};
-ghost use Rattle.asks.specs.Refusals.{otherCall, wrongCallBy, rowRefusal, newPage, newSmPage, lswitchPage, unpinPage};
-
-const NONE: u8 = 0;
+ghost use Rattle.asks.specs.Refusals.{otherCall, neededBy, wrongCallBy, rowRefusal, newPage, newSmPage, lswitchPage, unpinPage};
 
 const ACCEPTED: u8 = 0;
 
@@ -75,25 +80,35 @@ fn wrong_mode(h: &Host, m: u8) -> bool
 fn has_call(h: &Host, g: Guest) -> bool
     ensures { λ r. ⌜ r ≡ hasCall (asked (view (now (h .entry)) .shape)) (g .0) ⌝ }
 {
-    host::call(h, g) != NONE
+    !host::idle(h, g)
 }
 
-// The active guest's call is not c with a and b.
-fn other_call(h: &Host, c: u8, a: u8, b: u8) -> bool
-    ensures { λ r. ⌜ r ≡ otherCall (asked (view (now (h .entry)) .shape)) c a b ⌝ }
+// The active guest's call is not exactly x.
+fn other_call(h: &Host, x: Call) -> bool
+    ensures { λ r. ⌜ r ≡ otherCall (asked (view (now (h .entry)) .shape)) x ⌝ }
 {
-    let g = host::active(h);
-    if host::call(h, g) != c {
-        return true;
-    }
-    if host::call_a(h, g) != a {
-        return true;
-    }
-    host::call_b(h, g) != b
+    !host::is_pending(h, host::active(h), x)
 }
 
-fn wrong_call(h: &Host, n: u8, a: u8, b: u8) -> bool
-    ensures { λ r. ⌜ r ≡ wrongCallBy (asked (view (now (h .entry)) .shape)) n a b ⌝ }
+// The call numbered n, with what x names.
+fn needed(n: u8, x: Named) -> Call
+    ensures { λ r. ⌜ r ≡ neededBy n x ⌝ }
+{
+    let a = x.1;
+    let p = x.2;
+    let k = x.3;
+    match n {
+        CALL_NEW => Call::New(a, p),
+        CALL_DEL => Call::Del(a),
+        CALL_LSWITCH => Call::Lswitch(p),
+        CALL_PIN => Call::Pin(p, k),
+        CALL_UNPIN => Call::Unpin(p),
+        _ => Call::None,
+    }
+}
+
+fn wrong_call(h: &Host, n: u8, x: Named) -> bool
+    ensures { λ r. ⌜ r ≡ wrongCallBy (asked (view (now (h .entry)) .shape)) n x ⌝ }
 {
     if n == records::NOTHING {
         return false;
@@ -102,19 +117,20 @@ fn wrong_call(h: &Host, n: u8, a: u8, b: u8) -> bool
         return has_call(h, host::active(h));
     }
     if n == records::NAMED_IDLE {
-        return has_call(h, Guest(a));
+        let g = x.4;
+        return has_call(h, g);
     }
-    other_call(h, n, a, b)
+    other_call(h, needed(n, x))
 }
 
-fn row_refusal(h: &Host, k: u8, a: u8, b: u8) -> u8
-    ensures { λ r. ⌜ r ≡ rowRefusal (asked (view (now (h .entry)) .shape)) k a b ⌝ }
+fn row_refusal(h: &Host, x: Named) -> u8
+    ensures { λ r. ⌜ r ≡ rowRefusal (asked (view (now (h .entry)) .shape)) x ⌝ }
 {
-    let w = records::row_of(k);
+    let w = records::row_of(x.0);
     if wrong_mode(h, w.mode) {
         return WRONG_MODE;
     }
-    if wrong_call(h, w.need, a, b) {
+    if wrong_call(h, w.need, x) {
         return WRONG_CALL;
     }
     ACCEPTED
@@ -275,24 +291,24 @@ fn of_unpin(h: &Host, b: Pa) -> u8
 // ---- an action
 
 fn name_of(x: Action) -> Named
-    ensures { λ r. ⌜ r ≡ nameOf (actionFrom x) ⌝ }
+    ensures { λ r. ⌜ r ≡ nameOf x ⌝ }
 {
     match x {
-        Action::Silent => Named(0, 0, 0),
-        Action::Read(a) => Named(1, a.0, 0),
-        Action::ReadHyper(a) => Named(2, a.0, 0),
-        Action::Write(a, _) => Named(3, a.0, 0),
-        Action::WriteHyper(a, _) => Named(4, a.0, 0),
-        Action::New(a, p) => Named(5, a.0, p.0),
-        Action::NewSm(p) => Named(6, STEALTH, p.0),
-        Action::Del(a) => Named(7, a.0, 0),
-        Action::Switch(g) => Named(8, g.0, 0),
-        Action::Lswitch(p) => Named(9, p.0, 0),
-        Action::Hcall(_, a, b) => Named(10, a, b),
-        Action::RetCtrl => Named(11, 0, 0),
-        Action::Chmod => Named(12, 0, 0),
-        Action::Pin(p, k) => Named(13, p.0, k),
-        Action::Unpin(p) => Named(14, p.0, 0),
+        Action::Silent => Named(0, Va(0), Pa(0), PinKind::Data, Guest(0)),
+        Action::Read(a) => Named(1, a, Pa(0), PinKind::Data, Guest(0)),
+        Action::ReadHyper(a) => Named(2, a, Pa(0), PinKind::Data, Guest(0)),
+        Action::Write(a, _) => Named(3, a, Pa(0), PinKind::Data, Guest(0)),
+        Action::WriteHyper(a, _) => Named(4, a, Pa(0), PinKind::Data, Guest(0)),
+        Action::New(a, p) => Named(5, a, p, PinKind::Data, Guest(0)),
+        Action::NewSm(p) => Named(6, Va(STEALTH), p, PinKind::Data, Guest(0)),
+        Action::Del(a) => Named(7, a, Pa(0), PinKind::Data, Guest(0)),
+        Action::Switch(g) => Named(8, Va(0), Pa(0), PinKind::Data, g),
+        Action::Lswitch(p) => Named(9, Va(0), p, PinKind::Data, Guest(0)),
+        Action::Hcall(_) => Named(10, Va(0), Pa(0), PinKind::Data, Guest(0)),
+        Action::RetCtrl => Named(11, Va(0), Pa(0), PinKind::Data, Guest(0)),
+        Action::Chmod => Named(12, Va(0), Pa(0), PinKind::Data, Guest(0)),
+        Action::Pin(p, k) => Named(13, Va(0), p, k, Guest(0)),
+        Action::Unpin(p) => Named(14, Va(0), p, PinKind::Data, Guest(0)),
     }
 }
 
@@ -312,7 +328,7 @@ fn own_refusal(h: &Host, x: Action) -> u8
         Action::Unpin(p) => of_unpin(h, p),
         Action::Silent => ACCEPTED,
         Action::Switch(_) => ACCEPTED,
-        Action::Hcall(_, _, _) => ACCEPTED,
+        Action::Hcall(_) => ACCEPTED,
         Action::RetCtrl => ACCEPTED,
         Action::Chmod => ACCEPTED,
     }
@@ -323,7 +339,7 @@ pub fn refusal(h: &Host, x: Action) -> u8
     ensures { λ r. ⌜ r ≡ refusal (view (now (h .entry)) .shape) (actionFrom x) ⌝ }
 {
     let n = name_of(x);
-    let r = row_refusal(h, n.0, n.1, n.2);
+    let r = row_refusal(h, n);
     if r != ACCEPTED {
         return r;
     }

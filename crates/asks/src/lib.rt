@@ -1,10 +1,12 @@
 // What checks ask of a state, answered on its bytes, and the refusal of an action.
 use host::FIRST_RESERVED;
+use host::Guest;
 use host::Host;
 use host::KIND_TABLE;
 use host::Lead;
 use host::Ma;
 use host::Pa;
+use host::PinKind;
 use host::STEALTH;
 use host::Va;
 ghost use mathlib.Core.Path.{_≡_};
@@ -210,8 +212,8 @@ pub fn here(h: &Host, a: Pa) -> Lead
 
 // ---- the refusal of an action
 
-// The kind, a and b of an action: what its kind's row speaks of.
-struct Named(u8, u8, u8);
+// An action's kind and what it names: an address, a physical address, a pin's kind, a guest. Where it names none of them, a number that no row asks for.
+struct Named(u8, Va, Pa, PinKind, Guest);
 
 mod checks;
 

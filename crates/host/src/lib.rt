@@ -1,10 +1,22 @@
 // The host's state as lent bytes: where each field stands (docs/STATE.md), one getter and one setter for each, and the numbers that address them.
 // A getter answers 0 past the end of its field, and a setter changes nothing there.
+mod calls; // pending calls
 mod layout; // where each field stands
 mod names; // sizes, and numbers that stand for names
 mod start; // the fresh machine
 mod values; // numbers of more than one byte, the active guest and the mode, the map of free pages
 
+pub use calls::Call;
+pub use calls::CallBytes;
+pub use calls::PinKind;
+pub use calls::bytes_of;
+pub use calls::call_of;
+pub use calls::idle;
+pub use calls::is_pending;
+pub use calls::pending;
+pub use calls::pin_kind_of;
+pub use calls::pin_number;
+pub use calls::set_pending;
 use layout::CALL;
 use layout::CALL_A;
 use layout::CALL_B;
@@ -22,6 +34,15 @@ use layout::SLOT_ADDRESS;
 use layout::SLOT_PAGE;
 pub use names::ADDRESSES;
 pub use names::CACHEABLE;
+pub use names::CALL_A_BOUND;
+pub use names::CALL_B_BOUND;
+pub use names::CALL_DEL;
+pub use names::CALL_LSWITCH;
+pub use names::CALL_NEW;
+pub use names::CALL_NONE;
+pub use names::CALL_PIN;
+pub use names::CALL_UNPIN;
+pub use names::CALLS;
 pub use names::FIRST_FREE_PAGE;
 pub use names::FIRST_HOST_PAGE;
 pub use names::FIRST_RESERVED;
@@ -46,6 +67,10 @@ pub use names::STEALTH_LINE;
 pub use names::STEALTH_SET;
 pub use names::WAITING;
 pub use names::WAYS;
+pub use numbers::Guest;
+pub use numbers::Ma;
+pub use numbers::Pa;
+pub use numbers::Va;
 pub use start::fresh;
 pub use values::active;
 pub use values::free_pages;
@@ -68,19 +93,10 @@ ghost use lib.Dec.{eqb};
 ghost use Rattle.laws.specs.Choice.{at};
 ghost use Rattle.model.specs.Sizes.{addresses, physicals};
 ghost use Rattle.host.specs.Cut.{begin, size};
-ghost use Rattle.host.specs.View.{sizes, view, listed, column, put, ownerField, kindField, cacheableField, entryField, physicalField, currentField, callField, callAField, callBField, lineAddressField, linePageField, historyField, slotAddressField, slotPageField};
+ghost use Rattle.host.specs.View.{sizes, view, listed, column, put, ownerField, kindField, cacheableField, entryField, physicalField, currentField, lineAddressField, linePageField, historyField, slotAddressField, slotPageField};
 ghost use Rattle.host.specs.Lead.{leadOf, heldOf, placeOf, leadsAt};
 
 pub type Host = [u8; SIZE];
-
-// A machine page, a virtual address, a physical address of a guest, a guest: four kinds of numbers that are never mixed.
-pub struct Ma(pub u8);
-
-pub struct Va(pub u8);
-
-pub struct Pa(pub u8);
-
-pub struct Guest(pub u8);
 
 // What an entry, a physical place, a line or a TLB slot leads to.
 pub enum Lead {
@@ -284,42 +300,6 @@ pub fn set_current(h: &mut Host, g: Guest, a: Pa)
     ensures { λ _. ⌜ view (now (h .exit)) ≡ put currentField (view (now (h .entry))) (g .0) (a .0) ⌝ }
 {
     set(h, CURRENT, g.0 as usize, a.0)
-}
-
-pub fn call(h: &Host, g: Guest) -> u8
-    ensures { λ r. ⌜ r ≡ at (view (now (h .entry)) .shape .guests .call) (g .0) ⌝ }
-{
-    get(h, CALL, g.0 as usize)
-}
-
-pub fn set_call(h: &mut Host, g: Guest, v: u8)
-    ensures { λ _. ⌜ view (now (h .exit)) ≡ put callField (view (now (h .entry))) (g .0) v ⌝ }
-{
-    set(h, CALL, g.0 as usize, v)
-}
-
-pub fn call_a(h: &Host, g: Guest) -> u8
-    ensures { λ r. ⌜ r ≡ at (view (now (h .entry)) .shape .guests .callA) (g .0) ⌝ }
-{
-    get(h, CALL_A, g.0 as usize)
-}
-
-pub fn set_call_a(h: &mut Host, g: Guest, v: u8)
-    ensures { λ _. ⌜ view (now (h .exit)) ≡ put callAField (view (now (h .entry))) (g .0) v ⌝ }
-{
-    set(h, CALL_A, g.0 as usize, v)
-}
-
-pub fn call_b(h: &Host, g: Guest) -> u8
-    ensures { λ r. ⌜ r ≡ at (view (now (h .entry)) .shape .guests .callB) (g .0) ⌝ }
-{
-    get(h, CALL_B, g.0 as usize)
-}
-
-pub fn set_call_b(h: &mut Host, g: Guest, v: u8)
-    ensures { λ _. ⌜ view (now (h .exit)) ≡ put callBField (view (now (h .entry))) (g .0) v ⌝ }
-{
-    set(h, CALL_B, g.0 as usize, v)
 }
 
 // ---- the cache's lines and histories

@@ -49,6 +49,26 @@ pub const KIND_TABLE: u8 = 2;
 
 pub const CACHEABLE: u8 = 1;
 
+// Calls, by their number.
+pub const CALL_NONE: u8 = 0;
+
+pub const CALL_NEW: u8 = 1;
+
+pub const CALL_DEL: u8 = 2;
+
+pub const CALL_LSWITCH: u8 = 3;
+
+pub const CALL_PIN: u8 = 4;
+
+pub const CALL_UNPIN: u8 = 5;
+
+pub const CALLS: u8 = 6;
+
+// The largest range of a call's first argument, and of its second.
+pub const CALL_A_BOUND: u8 = ADDRESSES as u8;
+
+pub const CALL_B_BOUND: u8 = PHYSICALS as u8;
+
 // Marks and histories are below these.
 pub const MARKS: u8 = 2;
 

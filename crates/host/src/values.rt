@@ -205,8 +205,8 @@ pub fn lowest_free(h: &Host) -> Lead
     ensures { λ r. ⌜ r ≡ toward (lowestFree (view (now (h .entry)) .shape .pages .free)) ⌝ }
 {
     let p = marks::lowest(free(h));
-    if (p as usize) < PAGES {
-        Lead::To(Ma(p as u8))
+    if (p.0 as usize) < PAGES {
+        Lead::To(p)
     } else {
         Lead::Nowhere
     }
@@ -215,19 +215,19 @@ pub fn lowest_free(h: &Host) -> Lead
 pub fn is_free(h: &Host, p: Ma) -> bool
     ensures { λ r. ⌜ r ≡ marks (view (now (h .entry)) .shape .pages .free) (p .0) ⌝ }
 {
-    marks::is_marked(free(h), p.0)
+    marks::is_marked(free(h), p)
 }
 
 pub fn mark_free(h: &mut Host, p: Ma)
     ensures { λ _. ⌜ view (now (h .exit)) ≡ putFree (view (now (h .entry))) (pick (isPage (p .0)) (marked (view (now (h .entry)) .shape .pages .free) (p .0)) (view (now (h .entry)) .shape .pages .free)) ⌝ }
 {
     let m = free(h);
-    set_free(h, marks::with_mark(m, p.0))
+    set_free(h, marks::with_mark(m, p))
 }
 
 pub fn unmark_free(h: &mut Host, p: Ma)
     ensures { λ _. ⌜ view (now (h .exit)) ≡ putFree (view (now (h .entry))) (unmarked (view (now (h .entry)) .shape .pages .free) (p .0)) ⌝ }
 {
     let m = free(h);
-    set_free(h, marks::without_mark(m, p.0))
+    set_free(h, marks::without_mark(m, p))
 }

@@ -7,7 +7,7 @@ use lib.ListN.{set}
 use Rattle.laws.specs.Choice.{at}
 use Rattle.laws.proofs.Cases.{same?}
 use Rattle.laws.proofs.Lists.{at-same, at-other}
-use Rattle.model.specs.Sizes.{guests, physicals, addresses, calls}
+use Rattle.model.specs.Sizes.{guests, calls, callABound, callBBound}
 use Rattle.model.specs.Names.{running}
 use Rattle.model.specs.State.{State, active, table}
 use Rattle.model.specs.Records.{CallInRange}
@@ -20,10 +20,10 @@ use Rattle.keeps.proofs.Parts.{guests-core}
 use Rattle.keeps.proofs.Stores.{size-set, below-set}
 
 -- arguments that fit are below every argument's bound
-fits-below : (x a b : ℕ) → x < calls → Fits x a b → (a < addresses) × (b < physicals)
+fits-below : (x a b : ℕ) → x < calls → Fits x a b → (a < callABound) × (b < callBBound)
 fits-below x a b h f = go x (call-in x a b h f)
   where
-    go : (y : ℕ) → CallInRange y a b → (a < addresses) × (b < physicals)
+    go : (y : ℕ) → CallInRange y a b → (a < callABound) × (b < callBBound)
     go zero w = (omega (arith, w .0), omega (arith, w .1))
     go (suc zero) w = w
     go (suc (suc zero)) w = (w .0, omega (arith, w .1))

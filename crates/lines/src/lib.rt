@@ -17,8 +17,6 @@ ghost use Rattle.lines.specs.Lines.{linedBy, lined, slotBy, slotted, fir
 
 const ADDRESSES: u8 = host::ADDRESSES as u8;
 
-const LINES: u8 = host::LINES as u8;
-
 const PAGES: u8 = host::PAGES as u8;
 
 const SETS: u8 = host::SETS as u8;
@@ -31,7 +29,7 @@ fn line_by(h: &Host, i: u8, a: Va, p: Ma) -> bool
     ensures { λ r. ⌜ r ≡ linedBy (view (now (h .entry))) i (a .0) (p .0) ⌝ }
 {
     let mapped = asks::maps_at(h, p, a);
-    let again = seek::some(h, seek::Sought::KeyAgain(i as usize, a, p), LINES);
+    let again = seek::key_again(h, i as usize, a, p);
     (a.0 < ADDRESSES)
         & (a.0 % SETS == i / WAYS)
         & (host::cacheable(h, p) == CACHEABLE)

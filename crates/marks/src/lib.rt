@@ -1,4 +1,5 @@
 // The map of free pages as a number: digit n marks page n.
+use numbers::Ma;
 ghost use mathlib.Core.Path.{_≡_};
 ghost use Prim.Native.Nat.{_^_, _<_};
 ghost use Rattle.laws.specs.Choice.{pick};
@@ -19,9 +20,10 @@ fn one_bit(n: u8) -> u64
 }
 
 // No page past the last is marked.
-pub fn is_marked(m: u64, n: u8) -> bool
-    ensures { λ r. ⌜ r ≡ marks m n ⌝ }
+pub fn is_marked(m: u64, p: Ma) -> bool
+    ensures { λ r. ⌜ r ≡ marks m (p .0) ⌝ }
 {
+    let n = p.0;
     if n < PAGES {
         (m / one_bit(n)) % 2 == 1
     } else {
@@ -29,27 +31,28 @@ pub fn is_marked(m: u64, n: u8) -> bool
     }
 }
 
-pub fn with_mark(m: u64, n: u8) -> u64
-    ensures { λ r. ⌜ r ≡ pick (isPage n) (marked m n) m ⌝ }
+pub fn with_mark(m: u64, p: Ma) -> u64
+    ensures { λ r. ⌜ r ≡ pick (isPage (p .0)) (marked m (p .0)) m ⌝ }
 {
+    let n = p.0;
     if n < PAGES {
-        if is_marked(m, n) { m } else { m + one_bit(n) }
+        if is_marked(m, p) { m } else { m + one_bit(n) }
     } else {
         m
     }
 }
 
-pub fn without_mark(m: u64, n: u8) -> u64
-    ensures { λ r. ⌜ r ≡ unmarked m n ⌝ }
+pub fn without_mark(m: u64, p: Ma) -> u64
+    ensures { λ r. ⌜ r ≡ unmarked m (p .0) ⌝ }
 {
-    if is_marked(m, n) { m - one_bit(n) } else { m }
+    if is_marked(m, p) { m - one_bit(p.0) } else { m }
 }
 
 // The lowest page that is marked, or the number past the last.
-pub fn lowest(m: u64) -> u32
-    ensures { λ r. ⌜ r ≡ lowestFree m ⌝ }
+pub fn lowest(m: u64) -> Ma
+    ensures { λ r. ⌜ r .0 ≡ lowestFree m ⌝ }
 {
-    u64::trailing_zeros(m)
+    Ma(u64::trailing_zeros(m) as u8)
 }
 
 pub fn count(m: u64) -> u32

@@ -7,7 +7,7 @@ use lib.Dec.{ltb, leb, eqb}
 use Rattle.laws.specs.Choice.{pick, at, _⇒_}
 use Rattle.laws.specs.Search.{someBelow, allBelow, someIn, allIn}
 use Rattle.laws.specs.Bits.{marks}
-use Rattle.model.specs.Sizes.{guests, physicals, pages, addresses, firstHostPage, firstFreePage, ways, lines, sets, slots, stealth, stealthSet, reserved, setOf, slotOf, calls, marksBound, valueBound}
+use Rattle.model.specs.Sizes.{guests, physicals, pages, addresses, firstHostPage, firstFreePage, ways, lines, sets, slots, stealth, stealthSet, reserved, setOf, slotOf, calls, callABound, callBBound, marksBound, valueBound}
 use Rattle.model.specs.Names.{ownerNone, ownerHost, ownerGuest, kindNone, kindData, kindTable, running}
 use Rattle.model.specs.State.{State, lead, isPage, nowhere, stealthLine, lineAt, mapsPage}
 use Rattle.model.specs.History.{start, histories}
@@ -126,8 +126,8 @@ columns s =
     ∷ column (P .free ∷ []) 1 (2 ^ pages)
     ∷ column (G .current) guests physicals
     ∷ column (G .call) guests calls
-    ∷ column (G .callA) guests addresses
-    ∷ column (G .callB) guests physicals
+    ∷ column (G .callA) guests callABound
+    ∷ column (G .callB) guests callBBound
     ∷ column (G .active ∷ []) 1 guests
     ∷ column (G .mode ∷ []) 1 (suc running)
     ∷ column (C .lineAddress) lines addresses

@@ -8,7 +8,7 @@ use mathlib.Core.List.{List}
 use Prim.Native.Nat.{ℕ, suc, _+_, _*_, _/_, _^_, _≤_, _<_}
 use Rattle.laws.specs.Choice.{at}
 use Rattle.laws.specs.Bits.{bit}
-use Rattle.model.specs.Sizes.{guests, physicals, pages, addresses, firstHostPage, firstFreePage, ways, lines, sets, slots, stealth, stealthSet, reserved, setOf, slotOf, calls, marksBound, valueBound}
+use Rattle.model.specs.Sizes.{guests, physicals, pages, addresses, firstHostPage, firstFreePage, ways, lines, sets, slots, stealth, stealthSet, reserved, setOf, slotOf, calls, callABound, callBBound, marksBound, valueBound}
 use Rattle.model.specs.Names.{ownerNone, ownerHost, ownerGuest, kindNone, kindData, kindTable, running}
 use Rattle.model.specs.State.{Pages, Guests, Cache, Tlb, Values, State, stealthLine, lineAt}
 use Rattle.model.specs.History.{start, histories}
@@ -137,8 +137,8 @@ pub record PagesIn (p : Pages) : Type 0 where
 pub record GuestsIn (g : Guests) : Type 0 where
   pub current : Below (g .current) guests physicals
   pub call : Below (g .call) guests calls
-  pub callA : Below (g .callA) guests addresses
-  pub callB : Below (g .callB) guests physicals
+  pub callA : Below (g .callA) guests callABound
+  pub callB : Below (g .callB) guests callBBound
   pub arguments : (i : ℕ) → i < guests → Fits (at (g .call) i) (at (g .callA) i) (at (g .callB) i)
   pub active : g .active < guests
   pub mode : g .mode < suc running

@@ -71,6 +71,13 @@ kinds = 15
 abbrev pub calls : ℕ
 calls = 6
 
+-- the largest range of a call's first argument, and of its second
+abbrev pub callABound : ℕ
+callABound = addresses
+
+abbrev pub callBBound : ℕ
+callBBound = physicals
+
 -- bytes of a record, of its answer and of a journal's header; records of a journal
 abbrev pub recordBytes : ℕ
 recordBytes = 8

@@ -1,5 +1,8 @@
 // What rules 1, 2, 3, 5 and 6 test at one place.
 use host::CACHEABLE;
+use host::CALL_NEW;
+use host::CALLS;
+use host::Call;
 use host::FIRST_FREE_PAGE;
 use host::FIRST_HOST_PAGE;
 use host::Guest;
@@ -20,6 +23,7 @@ ghost use mathlib.Core.Path.{_≡_};
 ghost use Prim.Native.Nat.{_+_, _/_, _%_, _<_};
 ghost use Rattle.model.specs.RuleTests.{stored, fits};
 ghost use Rattle.host.specs.View.{view};
+ghost use Rattle.host.specs.Calls.{bytesOf};
 ghost use Rattle.places.specs.Places.{heldBy, heldOnce, registeredAt, currentTable, stealthCacheable, callKept, pageOf, pageKept};
 
 const GUESTS: u8 = host::GUESTS as u8;
@@ -31,24 +35,26 @@ const PHYSICALS: u8 = host::PHYSICALS as u8;
 // The owner's number of guest 0.
 const FIRST_GUEST: usize = OWNER_GUEST as usize;
 
-fn stored_call(c: u8) -> bool
-    ensures { λ r. ⌜ r ≡ stored c ⌝ }
+fn stored_call(x: Call) -> bool
+    ensures { λ r. ⌜ r ≡ stored (bytesOf x .number) ⌝ }
 {
-    (c >= 1) & (c < records::CALLS)
+    let n = host::bytes_of(x);
+    (n.number >= CALL_NEW) & (n.number < CALLS)
 }
 
-pub fn fits_call(c: u8, a: u8, b: u8) -> bool
-    ensures { λ r. ⌜ r ≡ fits c a b ⌝ }
+pub fn fits_call(x: Call) -> bool
+    ensures { λ r. ⌜ r ≡ fits (bytesOf x .number) (bytesOf x .a) (bytesOf x .b) ⌝ }
 {
-    records::within_of(records::kind_of_call(c), a, b)
+    let n = host::bytes_of(x);
+    records::within_of(records::kind_of_call(n.number), n.a, n.b)
 }
 
 pub fn call_kept(h: &Host, g: Guest) -> bool
     ensures { λ r. ⌜ r ≡ callKept (view (now (h .entry))) (g .0) ⌝ }
 {
-    let c = host::call(h, g);
-    let stored = stored_call(c);
-    let fits = fits_call(c, host::call_a(h, g), host::call_b(h, g));
+    let x = host::pending(h, g);
+    let stored = stored_call(x);
+    let fits = fits_call(x);
     let a = host::active(h);
     let idle = seek::implies((g.0 == a.0) & (host::mode(h) == RUNNING), !stored);
     idle & seek::implies(stored, fits)
@@ -91,7 +97,7 @@ pub fn page_kept(h: &Host, p: Ma) -> bool
 fn held_by(h: &Host, g: Guest, a: Pa, p: Ma) -> bool
     ensures { λ r. ⌜ r ≡ heldBy (view (now (h .entry))) (g .0) (a .0) (p .0) ⌝ }
 {
-    let again = seek::some(h, seek::Sought::HeldAgain(g, a, p), PHYSICALS);
+    let again = seek::held(h, seek::Sought::HeldAgain(g, a, p));
     (host::owner(h, p) as usize == FIRST_GUEST + g.0 as usize) & !again
 }
 
@@ -116,7 +122,7 @@ pub fn registered(h: &Host, p: Ma) -> bool
     }
     let g = o - OWNER_GUEST;
     if g < GUESTS {
-        seek::some(h, seek::Sought::HeldAt(Guest(g), p), PHYSICALS)
+        seek::held(h, seek::Sought::HeldAt(Guest(g), p))
     } else {
         true
     }

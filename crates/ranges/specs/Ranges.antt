@@ -4,7 +4,7 @@ use mathlib.Core.Bool.{Bool, _&&_}
 use Prim.Native.Nat.{ℕ, suc, _+_, _*_, _/_, _%_}
 use lib.Dec.{ltb, eqb}
 use Rattle.laws.specs.Choice.{at, _⇒_}
-use Rattle.model.specs.Sizes.{guests, physicals, pages, addresses, calls, marksBound}
+use Rattle.model.specs.Sizes.{guests, physicals, pages, addresses, calls, callABound, callBBound, marksBound}
 use Rattle.model.specs.Names.{ownerGuest, kindTable}
 use Rattle.model.specs.State.{State}
 use Rattle.model.specs.History.{histories}
@@ -21,7 +21,7 @@ placeInRange s i = ltb (at (s .shape .pages .physical) (physicals * (i / physica
 unfoldable pub guestInRange : State → ℕ → Bool
 guestInRange s g =
     let G = s .shape .guests in
-    ltb (at (G .current) g) physicals && ltb (at (G .call) g) calls && ltb (at (G .callA) g) addresses && ltb (at (G .callB) g) physicals
+    ltb (at (G .current) g) physicals && ltb (at (G .call) g) calls && ltb (at (G .callA) g) callABound && ltb (at (G .callB) g) callBBound
     && fits (at (G .call) g) (at (G .callA) g) (at (G .callB) g)
 
 unfoldable pub lineInRange : State → ℕ → Bool

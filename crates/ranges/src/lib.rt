@@ -1,4 +1,7 @@
 // What rule 10 tests at one place: numbers in range, empty places zero.
+use host::CALL_A_BOUND;
+use host::CALL_B_BOUND;
+use host::CALLS;
 use host::Guest;
 use host::HISTORIES;
 use host::Host;
@@ -51,14 +54,13 @@ pub fn guest_in_range(h: &Host, g: Guest) -> bool
     ensures { λ r. ⌜ r ≡ guestInRange (view (now (h .entry))) (g .0) ⌝ }
 {
     let t = host::current(h, g);
-    let c = host::call(h, g);
-    let a = host::call_a(h, g);
-    let b = host::call_b(h, g);
+    let x = host::pending(h, g);
+    let n = host::bytes_of(x);
     (t.0 < PHYSICALS)
-        & (c < records::CALLS)
-        & (a < ADDRESSES)
-        & (b < PHYSICALS)
-        & places::fits_call(c, a, b)
+        & (n.number < CALLS)
+        & (n.a < CALL_A_BOUND)
+        & (n.b < CALL_B_BOUND)
+        & places::fits_call(x)
 }
 
 pub fn line_in_range(h: &Host, i: u8) -> bool

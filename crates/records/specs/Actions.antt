@@ -4,19 +4,12 @@ use mathlib.Core.Option.{Option, none, some}
 use Prim.Native.Nat.{ℕ}
 use Rattle.model.specs.Records.{silent, read, readHyper, write, writeHyper, new, newSm, del, switch, lswitch, hcall, retCtrl, chmod, pin, unpin}
 use Rattle.model.specs.Records as records
-use Rattle.host.specs.declared.Va.{Va}
-use Rattle.host.specs.declared.Pa.{Pa}
-use Rattle.host.specs.declared.Guest.{Guest}
+use Rattle.numbers.specs.declared.Guest.{Guest}
+use Rattle.host.specs.Calls.{va, pa, callOf, pinKindOf}
 use Rattle.records.specs.declared.Action.{Action}
 use Rattle.records.specs.declared.Action.the-variants.{Silent, Read, ReadHyper, Write, WriteHyper, New, NewSm, Del, Switch, Lswitch, Hcall, RetCtrl, Chmod, Pin, Unpin}
 use Rattle.records.specs.declared.Decoded.{Decoded}
 use Rattle.records.specs.declared.Decoded.the-variants.{Is, Bad}
-
-abbrev pub va : ℕ → Va
-va n = record { 0 = n }
-
-abbrev pub pa : ℕ → Pa
-pa n = record { 0 = n }
 
 abbrev pub guest : ℕ → Guest
 guest n = record { 0 = n }
@@ -32,10 +25,10 @@ actionTo (newSm p) = NewSm (pa p)
 actionTo (del a) = Del (va a)
 actionTo (switch g) = Switch (guest g)
 actionTo (lswitch p) = Lswitch (pa p)
-actionTo (hcall c a b) = Hcall c a b
+actionTo (hcall c a b) = Hcall (callOf c a b)
 actionTo retCtrl = RetCtrl
 actionTo chmod = Chmod
-actionTo (pin p k) = Pin (pa p) k
+actionTo (pin p k) = Pin (pa p) (pinKindOf k)
 actionTo (unpin p) = Unpin (pa p)
 
 abbrev pub decodedOf : Option records.Action → Decoded

@@ -1,6 +1,15 @@
 // Records: the table of kinds (mode, call needed, limits of a and b), and the action that a record's eight bytes are.
+use host::CALL_DEL;
+use host::CALL_LSWITCH;
+use host::CALL_NEW;
+use host::CALL_PIN;
+use host::CALL_UNPIN;
+use host::CALLS;
+use host::Call;
+use host::CallBytes;
 use host::Guest;
 use host::Pa;
+use host::PinKind;
 use host::Va;
 ghost use mathlib.Core.Path.{_≡_};
 ghost use mathlib.Core.Bool.{_&&_};
@@ -34,25 +43,13 @@ pub const ANY: u8 = 2;
 // What is asked of calls: nothing; 1 to 5, exactly this one, with the record's a and b; the active guest, or the guest that a names, has none.
 pub const NOTHING: u8 = 0;
 
-pub const CALL_NEW: u8 = 1;
-
-pub const CALL_DEL: u8 = 2;
-
-pub const CALL_LSWITCH: u8 = 3;
-
-pub const CALL_PIN: u8 = 4;
-
-pub const CALL_UNPIN: u8 = 5;
-
 pub const ACTIVE_IDLE: u8 = 6;
 
 pub const NAMED_IDLE: u8 = 7;
 
 const KINDS: u8 = 15;
 
-pub const CALLS: u8 = 6;
-
-const RECORD: usize = 8;
+const RECORD: usize = reader::RECORD;
 
 const ADDRESSES: u8 = host::ADDRESSES as u8;
 
@@ -62,7 +59,7 @@ const GUESTS: u8 = host::GUESTS as u8;
 
 const STEALTH: u8 = host::STEALTH;
 
-pub const PIN_KINDS: u8 = 2;
+const PIN_KINDS: u8 = 2;
 
 const WRITE: u8 = 3;
 
@@ -239,10 +236,10 @@ pub enum Action {
     Del(Va),
     Switch(Guest),
     Lswitch(Pa),
-    Hcall(u8, u8, u8),
+    Hcall(Call),
     RetCtrl,
     Chmod,
-    Pin(Pa, u8),
+    Pin(Pa, PinKind),
     Unpin(Pa),
 }
 
@@ -318,10 +315,14 @@ fn action_of(k: u8, a: u8, b: u8, c: u8, v: u32) -> Action
         7 => Action::Del(Va(a)),
         8 => Action::Switch(Guest(a)),
         9 => Action::Lswitch(Pa(a)),
-        10 => Action::Hcall(c, a, b),
+        10 => Action::Hcall(host::call_of(CallBytes {
+            number: c,
+            a: a,
+            b: b,
+        })),
         11 => Action::RetCtrl,
         12 => Action::Chmod,
-        13 => Action::Pin(Pa(a), b),
+        13 => Action::Pin(Pa(a), host::pin_kind_of(b)),
         14 => Action::Unpin(Pa(a)),
         _ => Action::Silent,
     }

@@ -10,7 +10,7 @@ use Rattle.laws.specs.Search.{allBelow}
 use Rattle.laws.proofs.Tests.{eq⇔, lt⇔, and⇔, imp⇔, as⇔, agree}
 use Rattle.laws.proofs.Search.{all⇔}
 use Rattle.laws.proofs.Grid.{place-of}
-use Rattle.model.specs.Sizes.{guests, physicals, pages, addresses, lines, sets, slots, calls, marksBound}
+use Rattle.model.specs.Sizes.{guests, physicals, pages, addresses, lines, sets, slots, calls, callABound, callBBound, marksBound}
 use Rattle.model.specs.Names.{ownerGuest, kindTable, running}
 use Rattle.model.specs.State.{State}
 use Rattle.model.specs.History.{histories}
@@ -36,13 +36,13 @@ module _ (s : State) where
   unfolding entryInRange
   entry⇔ i h = rw (place-of addresses (omega arith) i) (lt⇔ (at (s .shape .pages .entry) i) (suc pages))
 
-  guest⇔ : (g : ℕ) → g < guests → guestInRange s g ⇔ ((((((at (s .shape .guests .current) g < physicals) × (at (s .shape .guests .call) g < calls)) × (at (s .shape .guests .callA) g < addresses))
-      × (at (s .shape .guests .callB) g < physicals))
+  guest⇔ : (g : ℕ) → g < guests → guestInRange s g ⇔ ((((((at (s .shape .guests .current) g < physicals) × (at (s .shape .guests .call) g < calls)) × (at (s .shape .guests .callA) g < callABound))
+      × (at (s .shape .guests .callB) g < callBBound))
       × Fits (at (s .shape .guests .call) g) (at (s .shape .guests .callA) g) (at (s .shape .guests .callB) g)))
   unfolding guestInRange
   guest⇔ g h =
       let G = s .shape .guests in
-      and⇔ (and⇔ (and⇔ (and⇔ (lt⇔ (at (G .current) g) physicals) (lt⇔ (at (G .call) g) calls)) (lt⇔ (at (G .callA) g) addresses)) (lt⇔ (at (G .callB) g) physicals))
+      and⇔ (and⇔ (and⇔ (and⇔ (lt⇔ (at (G .current) g) physicals) (lt⇔ (at (G .call) g) calls)) (lt⇔ (at (G .callA) g) callABound)) (lt⇔ (at (G .callB) g) callBBound))
       (within⇔ (rowOf (kindOfCall (at (G .call) g))) (at (G .callA) g) (at (G .callB) g))
 
   line⇔ : (i : ℕ) → i < lines → lineInRange s i ⇔ ((((at (s .shape .cache .lineAddress) i < addresses) × (at (s .shape .cache .linePage) i < suc pages))

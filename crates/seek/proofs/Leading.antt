@@ -11,7 +11,7 @@ use Rattle.model.specs.Sizes.{pages}
 use Rattle.model.specs.State.{lead, isPage}
 use Rattle.model.specs.RuleTests.{leadsTo}
 use Rattle.model.proofs.RuleTests.{lead-page, lead-holds}
-use Rattle.host.specs.declared.Ma.{Ma}
+use Rattle.numbers.specs.declared.Ma.{Ma}
 use Rattle.host.specs.declared.Lead.{Lead}
 use Rattle.host.specs.declared.Lead.the-variants.{To, Nowhere}
 use Rattle.host.specs.Lead.{ma, leadOf, placeOf}

@@ -10,17 +10,19 @@ use Rattle.host.specs.Lead.{leadOf, leadsAt}
 use Rattle.host.specs.declared.Lead.{Lead}
 use Rattle.host.specs.declared.Lead.the-variants.{To, Nowhere}
 use Rattle.seek.specs.declared.Sought.{Sought}
-use Rattle.seek.specs.declared.Sought.the-variants.{HeldAgain, HeldAt, KeyAgain}
+use Rattle.seek.specs.declared.Sought.the-variants.{HeldAgain, HeldAt}
 
 -- to a page, or the place is empty
 abbrev pub placed : Lead → Bool → Bool
 placed (To p) empty = true
 placed Nowhere empty = empty
 
--- ---- searches
+-- ---- searches: at physical address i, and at line i
 
 unfoldable pub sought : Sought → State → ℕ → Bool
 sought (HeldAgain g a p) s i = not (leadsAt (leadOf (at (s .shape .pages .physical) (physicals * g .0 + i))) (p .0) ⇒ eqb (a .0) i)
 sought (HeldAt g p) s i = leadsAt (leadOf (at (s .shape .pages .physical) (physicals * g .0 + i))) (p .0)
-sought (KeyAgain j a p) s i =
-    not (leadsAt (leadOf (at (s .shape .cache .linePage) i)) (p .0) && eqb (a .0) (at (s .shape .cache .lineAddress) i) ⇒ eqb j i)
+
+-- line i, being another than j, has the key of address a and page p
+unfoldable pub keyAt : ℕ → ℕ → ℕ → State → ℕ → Bool
+keyAt j a p s i = not (leadsAt (leadOf (at (s .shape .cache .linePage) i)) p && eqb a (at (s .shape .cache .lineAddress) i) ⇒ eqb j i)

@@ -8,15 +8,17 @@ ghost use mathlib.Core.Path.{_≡_};
 ghost use Prim.Native.Nat.{_+_, _<_};
 ghost use Rattle.laws.specs.Choice.{_⇒_};
 ghost use Rattle.laws.specs.Search.{someBelow};
+ghost use Rattle.model.specs.Sizes.{physicals, lines};
 ghost use Rattle.host.specs.View.{view};
-ghost use Rattle.seek.specs.Leads.{sought};
+ghost use Rattle.seek.specs.Leads.{sought, keyAt};
 
-// What is sought: page p at another physical address of guest g than a, or at any; a key in another line than j.
+// What is sought among a guest's physical addresses: page p at another than a, or at any.
 pub enum Sought {
     HeldAgain(Guest, Pa, Ma),
     HeldAt(Guest, Ma),
-    KeyAgain(usize, Va, Ma),
 }
+
+const PHYSICALS: u8 = host::PHYSICALS as u8;
 
 pub fn implies(a: bool, b: bool) -> bool
     ensures { λ r. ⌜ r ≡ (a ⇒ b) ⌝ }
@@ -24,48 +26,65 @@ pub fn implies(a: bool, b: bool) -> bool
     !a | b
 }
 
-fn held_again(h: &Host, g: Guest, a: Pa, p: Ma, i: u8) -> bool
-    ensures { λ r. ⌜ r ≡ sought (Sought.HeldAgain g a p) (view (now (h .entry))) i ⌝ }
+// ---- among physical addresses
+
+fn held_again(h: &Host, g: Guest, a: Pa, p: Ma, i: Pa) -> bool
+    ensures { λ r. ⌜ r ≡ sought (Sought.HeldAgain g a p) (view (now (h .entry))) (i .0) ⌝ }
 {
-    let l = host::leads_to(host::physical(h, g, Pa(i)), p);
-    !implies(l, a.0 == i)
+    let l = host::leads_to(host::physical(h, g, i), p);
+    !implies(l, a.0 == i.0)
 }
 
-fn held_at(h: &Host, g: Guest, p: Ma, i: u8) -> bool
-    ensures { λ r. ⌜ r ≡ sought (Sought.HeldAt g p) (view (now (h .entry))) i ⌝ }
+fn held_at(h: &Host, g: Guest, p: Ma, i: Pa) -> bool
+    ensures { λ r. ⌜ r ≡ sought (Sought.HeldAt g p) (view (now (h .entry))) (i .0) ⌝ }
 {
-    host::leads_to(host::physical(h, g, Pa(i)), p)
+    host::leads_to(host::physical(h, g, i), p)
 }
 
-fn key_again(h: &Host, j: usize, a: Va, p: Ma, i: u8) -> bool
-    ensures { λ r. ⌜ r ≡ sought (Sought.KeyAgain j a p) (view (now (h .entry))) i ⌝ }
+fn seeks(h: &Host, t: Sought, i: Pa) -> bool
+    ensures { λ r. ⌜ r ≡ sought t (view (now (h .entry))) (i .0) ⌝ }
 {
-    let k = i as usize;
+    match t {
+        Sought::HeldAgain(g, a, p) => held_again(h, g, a, p, i),
+        Sought::HeldAt(g, p) => held_at(h, g, p, i),
+    }
+}
+
+// Some physical address passes.
+pub fn held(h: &Host, t: Sought) -> bool
+    ensures { λ r. ⌜ r ≡ someBelow physicals (sought t (view (now (h .entry)))) ⌝ }
+{
+    let mut i: u8 = 0;
+    while i < PHYSICALS {
+        if seeks(h, t, Pa(i)) {
+            return true;
+        }
+        i += 1;
+    }
+    false
+}
+
+// ---- among lines
+
+// Line k, being another than j, has the key.
+fn key_at(h: &Host, j: usize, a: Va, p: Ma, k: usize) -> bool
+    ensures { λ r. ⌜ r ≡ keyAt j (a .0) (p .0) (view (now (h .entry))) k ⌝ }
+{
     let l = host::leads_to(host::line_page(h, k), p);
     let b = host::line_address(h, k);
     !implies(l & (a.0 == b.0), j == k)
 }
 
-fn seeks(h: &Host, t: Sought, i: u8) -> bool
-    ensures { λ r. ⌜ r ≡ sought t (view (now (h .entry))) i ⌝ }
+// Another line than j has the key of address a and page p.
+pub fn key_again(h: &Host, j: usize, a: Va, p: Ma) -> bool
+    ensures { λ r. ⌜ r ≡ someBelow lines (keyAt j (a .0) (p .0) (view (now (h .entry)))) ⌝ }
 {
-    match t {
-        Sought::HeldAgain(g, a, p) => held_again(h, g, a, p, i),
-        Sought::HeldAt(g, p) => held_at(h, g, p, i),
-        Sought::KeyAgain(j, a, p) => key_again(h, j, a, p, i),
-    }
-}
-
-// Some place below n passes.
-pub fn some(h: &Host, t: Sought, n: u8) -> bool
-    ensures { λ r. ⌜ r ≡ someBelow n (sought t (view (now (h .entry)))) ⌝ }
-{
-    let mut i: u8 = 0;
-    while i < n {
-        if seeks(h, t, i) {
+    let mut k: usize = 0;
+    while k < host::LINES {
+        if key_at(h, j, a, p, k) {
             return true;
         }
-        i += 1;
+        k += 1;
     }
     false
 }

@@ -37,6 +37,7 @@ use Rattle.records.specs.declared.Action as code
 use Rattle.records.specs.declared.Decoded.{Decoded}
 use Rattle.records.specs.declared.Decoded.the-variants.{Is, Bad}
 use Rattle.records.specs.Actions.{actionTo, decodedOf}
+use Rattle.records.proofs.Typed.{kind-decoded}
 use Rattle.asks.specs.Actions.{actionFrom}
 use Rattle.asks.proofs.Actions.{from-to}
 use Rattle.steps.specs.declared.Answer.{Answer}
@@ -84,7 +85,7 @@ module _ (s t : State) (l : List ℕ) (d : Decoded) (e : d ≡ decodedOf (decode
       go none g = let z : _≡_ {A = ℕ} 0 1 = cc (e, f, g) in absurd (omega arith)
       go (some y) g =
           let h : actionTo y ≡ x = cc (e, f, g) in
-          let k : actionFrom x ≡ y = ap actionFrom (sym h) ∙ from-to y in
+          let k : actionFrom x ≡ y = ap actionFrom (sym h) ∙ from-to y (kind-decoded l y g) in
           subst (λ (z : Action). Gives (acted s z) a t) k p
 
 -- ---- on a valid state
@@ -114,7 +115,7 @@ module _ {s : State} (v : Valid s) where
   performed-valid retCtrl r a = refl
   performed-valid chmod r a = refl
   performed-valid (pin pa k) r a =
-      pinned-valid s pa k v (r .1) (lt⇔ (lowestFree (s .shape .pages .free)) pages .1 (lowest-free v (a .isPage) (a .marked) .0))
+      pinned-valid s pa k v (lt⇔ (lowestFree (s .shape .pages .free)) pages .1 (lowest-free v (a .isPage) (a .marked) .0))
   performed-valid (unpin pa) r a = let p = here (s .shape) pa in for-page p (unpinStep s pa p) s (is-here (a .there))
 
   pub answered-valid : (x : Action) → Allowed (s .shape) x → answered s x ≡ value s x

@@ -8,7 +8,7 @@ use Rattle.laws.proofs.Cases.{pick-not}
 use Rattle.laws.proofs.Tests.{lt⇔, not-so}
 use Rattle.model.specs.Sizes.{pages}
 use Rattle.model.specs.State.{isPage}
-use Rattle.host.specs.declared.Ma.{Ma}
+use Rattle.numbers.specs.declared.Ma.{Ma}
 use Rattle.host.specs.declared.Lead.{Lead}
 use Rattle.host.specs.declared.Lead.the-variants.{To, Nowhere}
 use Rattle.host.specs.Lead.{toward}

@@ -113,8 +113,8 @@ pub(crate) fn perform(h: &mut Host, x: Action) -> u32
             acts::lswitch::lswitch(h, b);
             0
         }
-        Action::Hcall(c, a, b) => {
-            acts::hcall::hcall(h, c, a, b);
+        Action::Hcall(c) => {
+            acts::hcall::hcall(h, c);
             0
         }
         Action::RetCtrl => {

@@ -1,6 +1,5 @@
 -- Each test is of what was read.
 -- Assumes nothing.
-use Rattle.seek.specs.Leads.{sought}
 use Rattle.entries.specs.Entries.{ownBy}
 use borrow.Author.Needs.{needs}
 use Rattle.entries.proofs.own_by.Statement.{statement}
@@ -25,7 +24,7 @@ owner-requires-2 : tie.Need-owner-requires-2
 owner-requires-2 c κs = search needs
 
 returns : tie.Need-returns
-unfolding ownBy sought
+unfolding ownBy
 returns c = rw (c .owner2 .ensures, c .before .kind2 .ensures, c .before .before .reserved .ensures, c .before .before .before .kind .ensures, c .before .before .before .before .owner .ensures)
 
 pub own-by-spec : {M : Type 1} → statement M

@@ -15,14 +15,14 @@ one-bit-requires : tie.Need-one-bit-requires
 one-bit-requires c κs = search needs
 
 div-result : tie.Need-div-result
-div-result c = let s = c .before .before in omega (arith, c .one-bit .ensures, one-le-pow (s .args .n) 2 (omega arith))
+div-result c = let s = c .before .before in omega (arith, c .one-bit .ensures, one-le-pow (s .args .p .0) 2 (omega arith))
 
 returns : tie.Need-returns
 unfolding bit
 returns c = let s = c .before .before in ap (λ (x : ℕ). eqb (s .args .m / x % 2) 1) (c .one-bit .ensures)
 
 returns-2 : tie.Need-returns-2
-returns-2 c = let s = c .before in sym (marks-past (s .args .m) (s .args .n) (s .fits .m .fits) (c .if1 .left))
+returns-2 c = let s = c .before in sym (marks-past (s .args .m) (s .args .p .0) (s .fits .m .fits) (c .if1 .left))
 
 pub is-marked-spec : {M : Type 1} → statement M
 is-marked-spec = tie.close (tie.spec one-bit-requires div-result returns returns-2)

@@ -19,13 +19,13 @@ add-result c =
     let e = c .before in
     let k = e .before in
     let s = k .before .before in
-    record { fits = omega (arith, c .one-bit .ensures, with-below (s .args .m) (s .args .n) (s .fits .m .fits) (k .before .if1 .taken) (sym (k .is-marked .ensures) ∙ e .if2 .left)) }
+    record { fits = omega (arith, c .one-bit .ensures, with-below (s .args .m) (s .args .p .0) (s .fits .m .fits) (k .before .if1 .taken) (sym (k .is-marked .ensures) ∙ e .if2 .left)) }
 
 returns : tie.Need-returns
 returns c =
     let k = c .before in
     let s = k .before .before in
-    with-old (s .args .m) (s .args .n) (k .before .if1 .taken) (sym (k .is-marked .ensures) ∙ c .if2 .taken)
+    with-old (s .args .m) (s .args .p .0) (k .before .if1 .taken) (sym (k .is-marked .ensures) ∙ c .if2 .taken)
 
 returns-2 : tie.Need-returns-2
 returns-2 c =
@@ -33,10 +33,10 @@ returns-2 c =
     let k = e .before in
     let s = k .before .before in
     ap (λ (x : ℕ). s .args .m + x) (c .one-bit .ensures)
-    ∙ with-new (s .args .m) (s .args .n) (k .before .if1 .taken) (sym (k .is-marked .ensures) ∙ e .if2 .left)
+    ∙ with-new (s .args .m) (s .args .p .0) (k .before .if1 .taken) (sym (k .is-marked .ensures) ∙ e .if2 .left)
 
 returns-3 : tie.Need-returns-3
-returns-3 c = let s = c .before in with-past (s .args .m) (s .args .n) (c .if1 .left)
+returns-3 c = let s = c .before in with-past (s .args .m) (s .args .p .0) (c .if1 .left)
 
 pub with-mark-spec : {M : Type 1} → statement M
 with-mark-spec =

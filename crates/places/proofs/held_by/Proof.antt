@@ -6,8 +6,8 @@ use borrow.Author.Needs.{needs}
 use Rattle.places.proofs.held_by.Statement.{statement}
 use Rattle.places.proofs.held_by.Tie as tie
 
-some-requires : tie.Need-some-requires
-some-requires c κs = search needs
+held-requires : tie.Need-held-requires
+held-requires c κs = search needs
 
 owner-requires : tie.Need-owner-requires
 owner-requires c κs = search needs
@@ -23,8 +23,8 @@ add-result c = search needs
 
 returns : tie.Need-returns
 unfolding heldBy sought
-returns c = rw (c .before .owner .ensures, c .before .before .some .ensures)
+returns c = rw (c .before .owner .ensures, c .before .before .held .ensures)
 
 pub held-by-spec : {M : Type 1} → statement M
 held-by-spec =
-    tie.close (tie.spec some-requires owner-requires cast-result cast-result-2 add-result returns)
+    tie.close (tie.spec held-requires owner-requires cast-result cast-result-2 add-result returns)

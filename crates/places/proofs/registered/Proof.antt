@@ -31,15 +31,15 @@ returns c =
     let a = c .before .before .args in
     sym (none-owns (at (view (a .h .now) .shape .pages .owner) (a .p .0)) (has (a .h .now) (a .p .0)) (λ g b e. omega (arith, c .before .owner .ensures)))
 
-some-requires : tie.Need-some-requires
-some-requires c κs = search needs
+held-requires : tie.Need-held-requires
+held-requires c κs = search needs
 
 returns-2 : tie.Need-returns-2
 unfolding registeredAt sought
 returns-2 c =
     let a = c .before .before .before .before .args in
     let o = c .before .before .before .owner in
-    c .some .ensures
+    c .held .ensures
     ∙ sym (one-owns (at (view (a .h .now) .shape .pages .owner) (a .p .0)) (has (a .h .now) (a .p .0)) (o .result - ownerGuest 0) (omega arith) (sym (o .ensures) ∙ omega arith))
 
 returns-3 : tie.Need-returns-3
@@ -51,4 +51,4 @@ returns-3 c =
 pub registered-spec : {M : Type 1} → statement M
 registered-spec =
     tie.close
-    (tie.spec owner-requires returns some-requires returns-2 returns-3)
+    (tie.spec owner-requires returns held-requires returns-2 returns-3)

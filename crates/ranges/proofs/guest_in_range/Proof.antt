@@ -1,5 +1,8 @@
 -- Each test is of what was read.
 -- Assumes nothing.
+use Rattle.laws.specs.Choice.{at}
+use Rattle.host.specs.View.{view}
+use Rattle.host.proofs.CallNumbers.{bytes-call}
 use Rattle.ranges.specs.Ranges.{guestInRange}
 use borrow.Author.Needs.{needs}
 use Rattle.ranges.proofs.guest_in_range.Statement.{statement}
@@ -8,29 +11,25 @@ use Rattle.ranges.proofs.guest_in_range.Tie as tie
 current-requires : tie.Need-current-requires
 current-requires c κs = search needs
 
-call-requires : tie.Need-call-requires
-call-requires c κs = search needs
+pending-requires : tie.Need-pending-requires
+pending-requires c κs = search needs
 
-call-a-requires : tie.Need-call-a-requires
-call-a-requires c κs = search needs
-
-call-b-requires : tie.Need-call-b-requires
-call-b-requires c κs = search needs
+bytes-of-requires : tie.Need-bytes-of-requires
+bytes-of-requires c κs = search needs
 
 fits-call-requires : tie.Need-fits-call-requires
 fits-call-requires c κs = search needs
 
 returns : tie.Need-returns
 unfolding guestInRange
-returns c = rw (c .fits-call .ensures, c .before .before .call-b .ensures, c .before .before .before .call-a .ensures, c .before .before .before .before .call .ensures, c .before .before .before .before .before .current .ensures)
+returns c =
+    let b = c .before .before .before .before .before in
+    let p = b .before in
+    let s = view (p .before .before .args .h .now) .shape .guests in
+    let g = p .before .before .args .g .0 in
+    rw (c .fits-call .ensures, b .bytes-of .ensures, p .pending .ensures, bytes-call (at (s .call) g) (at (s .callA) g) (at (s .callB) g), p .before .current .ensures)
 
 pub guest-in-range-spec : {M : Type 1} → statement M
 guest-in-range-spec =
     tie.close
-    (tie.spec
-    current-requires
-    call-requires
-    call-a-requires
-    call-b-requires
-    fits-call-requires
-    returns)
+    (tie.spec current-requires pending-requires bytes-of-requires fits-call-requires returns)

@@ -3,8 +3,15 @@
 use mathlib.Core.Path.{ap}
 use Rattle.records.specs.Actions.{actionTo}
 use Rattle.records.proofs.Others.{silent-else}
+use borrow.Author.Needs.{needs}
 use Rattle.records.proofs.action_of.Statement.{statement}
 use Rattle.records.proofs.action_of.Tie as tie
+
+call-of-requires : tie.Need-call-of-requires
+call-of-requires c κs = search needs
+
+pin-kind-of-requires : tie.Need-pin-kind-of-requires
+pin-kind-of-requires c κs = search needs
 
 returns : tie.Need-returns
 returns c = rw (c .match .keys1)
@@ -34,7 +41,7 @@ returns-9 : tie.Need-returns-9
 returns-9 c = rw (c .match .keys9)
 
 returns-10 : tie.Need-returns-10
-returns-10 c = rw (c .match .keys10)
+returns-10 c = rw (c .before .match .keys10, c .call-of .ensures)
 
 returns-11 : tie.Need-returns-11
 returns-11 c = rw (c .match .keys11)
@@ -43,7 +50,7 @@ returns-12 : tie.Need-returns-12
 returns-12 c = rw (c .match .keys12)
 
 returns-13 : tie.Need-returns-13
-returns-13 c = rw (c .match .keys13)
+returns-13 c = rw (c .before .match .keys13, c .pin-kind-of .ensures)
 
 returns-14 : tie.Need-returns-14
 returns-14 c = rw (c .match .keys14)
@@ -57,6 +64,8 @@ pub action-of-spec : {M : Type 1} → statement M
 action-of-spec =
     tie.close
     (tie.spec
+    call-of-requires
+    pin-kind-of-requires
     returns
     returns-2
     returns-3

@@ -16,7 +16,7 @@ implies-requires c κs = search needs
 
 returns : tie.Need-returns
 unfolding sought
-returns c = rw (c .implies .ensures, c .before .before .leads-to .ensures, c .before .before .before .physical .ensures)
+returns c = rw (c .implies .ensures, c .before .before .before .leads-to .ensures, c .before .before .before .before .physical .ensures)
 
 pub held-again-spec : {M : Type 1} → statement M
 held-again-spec = tie.close (tie.spec physical-requires leads-to-requires implies-requires returns)

@@ -20,20 +20,11 @@ enum-known-t-2 c = search needs
 held-at-requires : tie.Need-held-at-requires
 held-at-requires c κs = search needs
 
-enum-known-t-3 : tie.Need-enum-known-t-3
-enum-known-t-3 c = search needs
-
-key-again-requires : tie.Need-key-again-requires
-key-again-requires c κs = search needs
-
 returns : tie.Need-returns
-returns c = c .held-again .ensures ∙ ap (λ (t : Sought). sought t (view (c .before .before .before .before .args .h .now)) (c .before .before .before .before .args .i)) (sym (c .before .before .t .given .1))
+returns c = c .held-again .ensures ∙ ap (λ (t : Sought). sought t (view (c .before .before .before .before .args .h .now)) (c .before .before .before .before .args .i .0)) (sym (c .before .before .t .given .1))
 
 returns-2 : tie.Need-returns-2
-returns-2 c = c .held-at .ensures ∙ ap (λ (t : Sought). sought t (view (c .before .before .before .before .args .h .now)) (c .before .before .before .before .args .i)) (sym (c .before .before .t2 .given .1))
-
-returns-3 : tie.Need-returns-3
-returns-3 c = c .key-again .ensures ∙ ap (λ (t : Sought). sought t (view (c .before .before .before .before .args .h .now)) (c .before .before .before .before .args .i)) (sym (c .before .before .t3 .given .1))
+returns-2 c = c .held-at .ensures ∙ ap (λ (t : Sought). sought t (view (c .before .before .before .before .args .h .now)) (c .before .before .before .before .args .i .0)) (sym (c .before .before .t2 .given .1))
 
 pub seeks-spec : {M : Type 1} → statement M
 seeks-spec =
@@ -43,8 +34,5 @@ seeks-spec =
     held-again-requires
     enum-known-t-2
     held-at-requires
-    enum-known-t-3
-    key-again-requires
     returns
-    returns-2
-    returns-3)
+    returns-2)

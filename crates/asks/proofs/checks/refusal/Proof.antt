@@ -1,7 +1,6 @@
 -- The row's refusal, and if it has none the action's own.
 -- Assumes nothing.
 use Rattle.host.specs.View.{view}
-use Rattle.asks.specs.Actions.{actionFrom}
 use Rattle.asks.proofs.Row.{refused-row, refused-own}
 use borrow.Author.Needs.{needs}
 use Rattle.asks.proofs.checks.refusal.Statement.{statement}
@@ -17,7 +16,7 @@ returns : tie.Need-returns
 returns c =
     let n = c .before .before in
     let a = n .before .args in
-    refused-row (view (a .h .now) .shape) (actionFrom (a .x)) (n .name-of .result) (n .name-of .ensures) (c .before .row-refusal .ensures) (c .if1 .taken)
+    refused-row (view (a .h .now) .shape) (a .x) (n .name-of .result) (n .name-of .ensures) (c .before .row-refusal .ensures) (c .if1 .taken)
 
 own-refusal-requires : tie.Need-own-refusal-requires
 own-refusal-requires c κs = search needs
@@ -27,7 +26,7 @@ returns-2 c =
     let r = c .before .before in
     let n = r .before in
     let a = n .before .args in
-    refused-own (view (a .h .now) .shape) (actionFrom (a .x)) (n .name-of .result) (n .name-of .ensures) (r .row-refusal .ensures) (c .before .if1 .left) (c .own-refusal .ensures)
+    refused-own (view (a .h .now) .shape) (a .x) (n .name-of .result) (n .name-of .ensures) (r .row-refusal .ensures) (c .before .if1 .left) (c .own-refusal .ensures)
 
 pub refusal-spec : {M : Type 1} → statement M
 refusal-spec =

@@ -17,7 +17,7 @@ returns : tie.Need-returns
 returns c =
     let w = c .before .before in
     let a = w .before .args in
-    row-mode (asked (view (a .h .now) .shape)) (a .k) (a .a) (a .b) (w .row-of .result) (w .row-of .ensures) (c .before .wrong-mode .ensures) (c .if1 .taken)
+    row-mode (asked (view (a .h .now) .shape)) (a .x) (w .row-of .result) (w .row-of .ensures) (c .before .wrong-mode .ensures) (c .if1 .taken)
 
 wrong-call-requires : tie.Need-wrong-call-requires
 wrong-call-requires c κs = search needs
@@ -27,7 +27,7 @@ returns-2 c =
     let m = c .before .before in
     let w = m .before .before in
     let a = w .before .args in
-    row-call (asked (view (a .h .now) .shape)) (a .k) (a .a) (a .b) (w .row-of .result) (w .row-of .ensures) (m .before .wrong-mode .ensures) (m .if1 .left)
+    row-call (asked (view (a .h .now) .shape)) (a .x) (w .row-of .result) (w .row-of .ensures) (m .before .wrong-mode .ensures) (m .if1 .left)
     (c .before .wrong-call .ensures) (c .if2 .taken)
 
 returns-3 : tie.Need-returns-3
@@ -35,7 +35,7 @@ returns-3 c =
     let m = c .before .before in
     let w = m .before .before in
     let a = w .before .args in
-    row-passed (asked (view (a .h .now) .shape)) (a .k) (a .a) (a .b) (w .row-of .result) (w .row-of .ensures) (m .before .wrong-mode .ensures) (m .if1 .left)
+    row-passed (asked (view (a .h .now) .shape)) (a .x) (w .row-of .result) (w .row-of .ensures) (m .before .wrong-mode .ensures) (m .if1 .left)
     (c .before .wrong-call .ensures) (c .if2 .left)
 
 pub row-refusal-spec : {M : Type 1} → statement M

@@ -3,6 +3,7 @@
 use mathlib.Core.Path.{ap, _∙_}
 use Rattle.model.specs.Checks.{asked, hasCall}
 use Rattle.host.specs.View.{view}
+use Rattle.asks.specs.Refusals.{otherCall}
 use Rattle.asks.proofs.Row.{by-nothing, by-active, by-named, by-call}
 use borrow.Author.Needs.{needs}
 use Rattle.asks.proofs.checks.wrong_call.Statement.{statement}
@@ -11,7 +12,7 @@ use Rattle.asks.proofs.checks.wrong_call.Tie as tie
 returns : tie.Need-returns
 returns c =
     let a = c .before .args in
-    by-nothing (asked (view (a .h .now) .shape)) (a .n) (a .a) (a .b) (c .if1 .taken)
+    by-nothing (asked (view (a .h .now) .shape)) (a .n) (a .x) (c .if1 .taken)
 
 active-requires : tie.Need-active-requires
 active-requires c κs = search needs
@@ -25,25 +26,29 @@ returns-2 c =
     let t = c .before .before in
     let a = t .before .before .args in
     let q = asked (view (a .h .now) .shape) in
-    by-active q (a .n) (a .a) (a .b) (t .before .if1 .left) (t .if2 .taken) (c .has-call .ensures ∙ ap (hasCall q) (c .before .active .ensures))
+    by-active q (a .n) (a .x) (t .before .if1 .left) (t .if2 .taken) (c .has-call .ensures ∙ ap (hasCall q) (c .before .active .ensures))
 
 has-call-requires-2 : tie.Need-has-call-requires-2
 has-call-requires-2 c κs = search needs
 
 returns-3 : tie.Need-returns-3
 returns-3 c =
-    let t = c .before .before in
+    let t = c .before .before .before in
     let a = t .before .before .args in
-    by-named (asked (view (a .h .now) .shape)) (a .n) (a .a) (a .b) (t .before .if1 .left) (t .if2 .left) (c .before .if3 .taken) (c .has-call2 .ensures)
+    by-named (asked (view (a .h .now) .shape)) (a .n) (a .x) (t .before .if1 .left) (t .if2 .left) (c .before .before .if3 .taken) (c .has-call2 .ensures)
+
+needed-requires : tie.Need-needed-requires
+needed-requires c κs = search needs
 
 other-call-requires : tie.Need-other-call-requires
 other-call-requires c κs = search needs
 
 returns-4 : tie.Need-returns-4
 returns-4 c =
-    let t = c .before .before in
+    let t = c .before .before .before in
     let a = t .before .before .args in
-    by-call (asked (view (a .h .now) .shape)) (a .n) (a .a) (a .b) (t .before .if1 .left) (t .if2 .left) (c .before .if3 .left) (c .other-call .ensures)
+    let q = asked (view (a .h .now) .shape) in
+    by-call q (a .n) (a .x) (t .before .if1 .left) (t .if2 .left) (c .before .before .if3 .left) (c .other-call .ensures ∙ ap (otherCall q) (c .before .needed .ensures))
 
 pub wrong-call-spec : {M : Type 1} → statement M
 wrong-call-spec =
@@ -55,5 +60,6 @@ wrong-call-spec =
     returns-2
     has-call-requires-2
     returns-3
+    needed-requires
     other-call-requires
     returns-4)

@@ -17,18 +17,15 @@ lowest-requires c κs = search needs
 cast-if1 : tie.Need-cast-if1
 cast-if1 c = search needs
 
-cast-t7 : tie.Need-cast-t7
-cast-t7 c = search needs
-
 returns : tie.Need-returns
 returns c =
-    let l = c .before .lowest in
-    sym (toward-page (l .result) (c .if1 .taken)) ∙ ap toward (l .ensures ∙ ap lowestFree (c .before .before .free .ensures))
+    let l = c .before .before .lowest in
+    sym (toward-page (l .result .0) (c .if1 .taken)) ∙ ap toward (l .ensures ∙ ap lowestFree (c .before .before .before .free .ensures))
 
 returns-2 : tie.Need-returns-2
 returns-2 c =
-    let l = c .before .lowest in
-    sym (toward-none (l .result) (c .if1 .left)) ∙ ap toward (l .ensures ∙ ap lowestFree (c .before .before .free .ensures))
+    let l = c .before .before .lowest in
+    sym (toward-none (l .result .0) (c .if1 .left)) ∙ ap toward (l .ensures ∙ ap lowestFree (c .before .before .before .free .ensures))
 
 pub lowest-free-spec : {M : Type 1} → statement M
-lowest-free-spec = tie.close (tie.spec free-requires lowest-requires cast-if1 cast-t7 returns returns-2)
+lowest-free-spec = tie.close (tie.spec free-requires lowest-requires cast-if1 returns returns-2)
