@@ -134,11 +134,15 @@ class Function:
 HEAD = re.compile(r'\b(?P<pub>pub(?:\s*\([^)]*\))?)?\s*(?P<how>(?:\b(?:const|unsafe|async|extern\s*(?:"C")?)\s+)*)\bfn\s+(?P<name>\w+)\s*')
 
 
+def sources(crate):
+    """The files of a crate's code."""
+    return sorted(source.relative_to(ROOT).as_posix() for source in (ROOT / "crates" / crate / "src").rglob("*.rt"))
+
+
 def functions(crate):
     """Every function of a crate's sources, and a complaint where there is something that the checks do not read."""
     found = []
-    for source in sorted((ROOT / "crates" / crate / "src").rglob("*.rt")):
-        file = source.relative_to(ROOT).as_posix()
+    for file in sources(crate):
         text = rattle(file)
         for word in re.findall(r"\btrait\s+\w+|\bimpl\b[^{;]*\bfor\b[^{;]*|\bmacro_rules\b|\binclude\s*!|#\s*\[\s*path\b", text):
             complain(f"{file}: {word.strip()}: the checks do not read such a thing")
