@@ -128,7 +128,9 @@ module _ (s : State) (va p : ℕ) where
   module _ (c : isCacheable (s .shape) p ≡ true) where
     found-line : (w : ℕ) → hitWay (s .shape) va p ≡ w → w < ways → at (s .values .line) (lineAt (setOf va) w) ≡ found s va p
     unfolding found
-    found-line w e h = rw (c, e, lt-ltb w ways h)
+    found-line w e h =
+        let i : lineAt (setOf va) w ≡ lineOf (s .shape) va p = rw (e, lt-ltb w ways h) in
+        ap (at (s .values .line)) i ∙ sym (pick-yes (at (s .values .line) (lineOf (s .shape) va p)) (at (s .values .memory) p) c)
 
     stored-line : (n w : ℕ) → hitWay (s .shape) va p ≡ w → w < ways → length (s .values .memory) ≡ pages
         → putLine s (lineAt (setOf va) w) n ≡ store s va p n

@@ -86,8 +86,8 @@ pub fn fill(h: &mut Host, i: usize, a: Va, p: Ma)
     ensures { λ _. ⌜ view (now (h .exit)) ≡ pick (isPage (p .0)) (enter (view (now (h .entry))) i (a .0) (p .0)) (view (now (h .entry))) ⌝ }
 {
     if (p.0 as usize) < host::PAGES {
-        let v = host::memory(h, p);
-        let l = line_to(a, p, v);
+        let value = host::memory(h, p);
+        let l = line_to(a, p, value);
         replace_line(h, i, l);
     }
 }
