@@ -1,14 +1,14 @@
 -- The cache's part of a step and the rest of it; and the stealth line.
 -- Assumes nothing.
 use mathlib.Core.Path.{_≡_, sym, ap, _∙_}
-use Prim.Native.Nat.{ℕ, suc, _<_}
+use Prim.Native.Nat.{ℕ, suc, _≤_, _<_}
 use native.Mathlib.Omega.{arith}
 use lib.Seq.{set-out}
 use Rattle.laws.specs.Choice.{pick, at}
 use Rattle.laws.proofs.Cases.{pick-yes, pick-not}
 use Rattle.laws.proofs.Tests.{lt⇔, not-so}
 use Rattle.model.specs.Sizes.{pages, stealth}
-use Rattle.model.specs.State.{State, isPage, table, noLine, stealthLine}
+use Rattle.model.specs.State.{State, isPage, table, hitWay, noLine, stealthLine}
 use Rattle.model.specs.Parts.{shaped, setEntry, translate, enter}
 use Rattle.model.specs.Read.{readStep}
 use Rattle.model.specs.Write.{store, writeStep}
@@ -18,26 +18,42 @@ use Rattle.numbers.specs.declared.Ma.{Ma}
 use Rattle.host.specs.declared.Lead.{Lead}
 use Rattle.host.specs.declared.Lead.the-variants.{To, Nowhere}
 use Rattle.host.specs.Lead.{toward}
-use Rattle.cache.specs.Lines.{accessed}
-use Rattle.cache.proofs.Accesses.{read-is-access}
+use Rattle.cache.specs.declared.Purpose.the-variants.{Read, Write}
+use Rattle.cache.specs.Lines.{found, accessedFor, Accesses}
+use Rattle.cache.proofs.Accesses.{read-is-access, found-read}
 use Rattle.acts.specs.Mapped.{idle}
-use Rattle.acts.proofs.Pages.{led, led-nowhere, for-page}
+use Rattle.acts.specs.Reads.{Reads}
+use Rattle.acts.proofs.Pages.{led, led-nowhere, for-page, no-page}
 
 -- ---- read and write
 
 abbrev translated : ℕ → ℕ → State → State
 translated va p x = shaped x (translate (x .shape) va p)
 
-module _ (s : State) (va p : ℕ) (h : p < pages) (t u : State) where
-  pub reads : t ≡ accessed s va p → u ≡ pick (isPage p) (translated va p t) t → u ≡ pick (isPage p) (readStep s va p) s
-  reads e f =
-      f ∙ for-page p (translated va p t) t h ∙ ap (translated va p) e ∙ sym (read-is-access s va p)
-      ∙ sym (for-page p (readStep s va p) s h)
+module _ (s : State) (va p : ℕ) (h : p < pages) (t u : State) (f : u ≡ pick (isPage p) (translated va p t) t) where
+  pub reads : (v : ℕ) → Accesses s va p Read v t → Reads s va p v u
+  unfolding accessedFor
+  reads v a =
+      record {
+        value = a .value ∙ sym (found-read s va p) ∙ sym (pick-yes (found (readStep s va p) va p) 0 (lt⇔ p pages .1 h));
+        state = f ∙ for-page p (translated va p t) t h ∙ ap (translated va p) (a .state) ∙ sym (read-is-access s va p)
+            ∙ sym (for-page p (readStep s va p) s h);
+      }
 
-  pub writes : (v : ℕ) → t ≡ pick (isPage p) (readStep s va p) s → u ≡ store t va p v → u ≡ pick (isPage p) (writeStep s va p v) s
-  unfolding writeStep
-  writes v e f =
-      f ∙ ap (λ (x : State). store x va p v) (e ∙ for-page p (readStep s va p) s h) ∙ sym (for-page p (writeStep s va p v) s h)
+  -- the TLB's slot and what is stored are apart
+  pub writes : (n v : ℕ) → Accesses s va p (Write n) v t → u ≡ pick (isPage p) (writeStep s va p n) s
+  unfolding accessedFor writeStep store hitWay
+  writes n v a =
+      f ∙ for-page p (translated va p t) t h ∙ ap (translated va p) (a .state) ∙ ap (λ (x : State). store x va p n) (sym (read-is-access s va p))
+      ∙ sym (for-page p (writeStep s va p n) s h)
+
+-- what is no page is not read
+pub no-read : (s : State) (va p : ℕ) → pages ≤ p → Reads s va p 0 s
+no-read s va p l =
+    record {
+      value = sym (pick-not (found (readStep s va p) va p) 0 (not-so (lt⇔ p pages) (λ h. omega arith)));
+      state = sym (no-page p (readStep s va p) s l);
+    }
 
 -- ---- the stealth line
 

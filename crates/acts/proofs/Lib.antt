@@ -4,3 +4,4 @@ pub mod Pinning
 pub mod Mapping
 pub mod Damage
 pub mod Accesses
+pub mod Answers

@@ -1,2 +1,3 @@
 pub mod Pinned
 pub mod Mapped
+pub mod Reads

@@ -1,5 +1,6 @@
 // write, write_hyper: an access, and the page holds v.
-use super::read::read;
+use super::translate;
+use cache::Purpose;
 use host::Host;
 use host::Ma;
 use host::Va;
@@ -14,7 +15,7 @@ pub fn write(h: &mut Host, a: Va, p: Ma, v: u32)
     ensures { λ _. ⌜ view (now (h .exit)) ≡ pick (isPage (p .0)) (writeStep (view (now (h .entry))) (a .0) (p .0) v) (view (now (h .entry))) ⌝ }
 {
     if (p.0 as usize) < host::PAGES {
-        read(h, a, p);
-        cache::store(h, a, p, v);
+        cache::access(h, a, p, Purpose::Write(v));
+        translate(h, a, p);
     }
 }

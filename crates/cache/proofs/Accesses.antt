@@ -1,21 +1,22 @@
--- What an access and a store are, case by case: a page not cacheable, a hit, a miss.
+-- What an access is, case by case: a page not cacheable, a hit, a miss; and what is found and stored after it.
 -- Assumes nothing.
 use mathlib.Core.Path.{_≡_, refl, sym, ap, _∙_}
-use mathlib.Core.Bool.{Bool, true, false}
+use mathlib.Core.Bool.{Bool, true, false, _&&_}
+use mathlib.Core.Logic.{_≢_}
 use mathlib.Core.List.{List}
 use Prim.Native.Nat.{ℕ, suc, _≤_, _<_}
 use native.Mathlib.Omega.{arith}
 use lib.Dec.{ltb, eqb}
-use lib.ListN.{length, set}
+use lib.ListN.{length, set, length-set}
 use lib.Seq.{set-out, set-getD, set-set}
-use borrow.Author.Tests.{lt-ltb, le-ltb, eqb-true}
+use borrow.Author.Tests.{lt-ltb, le-ltb, eqb-true, eq-eqb}
 use Rattle.laws.specs.Choice.{pick, at}
 use Rattle.laws.specs.Search.{firstBelow}
 use Rattle.laws.proofs.Cases.{split, below?, pick-both, pick-yes}
-use Rattle.laws.proofs.Lists.{at-past}
-use Rattle.laws.proofs.Search.{firstBelow-le}
+use Rattle.laws.proofs.Lists.{at-past, at-same, at-other}
+use Rattle.laws.proofs.Search.{firstBelow-le, firstBelow-before, firstBelow-none, firstBelow-is}
 use Rattle.model.specs.Sizes.{pages, sets, ways, lines, byteBound, setOf}
-use Rattle.model.specs.State.{State, lead, nowhere, isPage, isCacheable, noLine, lineAt, hitWay}
+use Rattle.model.specs.State.{State, lead, nowhere, isPage, isCacheable, noLine, lineAt, hasKey, hitWay, lineOf}
 use Rattle.model.specs.Parts.{shaped, withCache, setHistory, translate, takeOut, enter, wayFor}
 use Rattle.model.specs.History.{entered}
 use Rattle.model.specs.Read.{accessWay, missLine, accessHistory, readStep}
@@ -23,10 +24,14 @@ use Rattle.model.specs.Write.{store}
 use Rattle.model.specs.Valid.{Sized}
 use Rattle.host.specs.View.{put, putMemory, putLine, historyField}
 use Rattle.host.proofs.Inverse.{Bounded}
+use Rattle.cache.specs.declared.Line.{Line}
 use Rattle.cache.specs.declared.Set.{Set}
-use Rattle.cache.specs.Sets.{setFrom, findIn, placeIn, usedIn, enteredIn}
-use Rattle.cache.specs.Lines.{accessed, missed}
-use Rattle.cache.proofs.Sets.{find-is-hit, place-is-way}
+use Rattle.cache.specs.declared.Purpose.{Purpose}
+use Rattle.cache.specs.declared.Purpose.the-variants.{Read, Write}
+use Rattle.cache.specs.Sets.{lineWith, lineFrom, setFrom, lineTo, wayIn, findIn, placeIn, replacedIn, usedIn, enteredIn}
+use Rattle.cache.specs.Lines.{putWhole, putBack, accessed, missed, found, after, accessedFor, Accesses}
+use Rattle.cache.proofs.Sets.{way-is, find-is-hit, place-is-way}
+use Rattle.cache.proofs.Whole.{history-kept, put-back-history, put-back-replaced}
 
 -- a read is the cache's part and then the TLB's slot
 pub read-is-access : (s : State) (va p : ℕ) → readStep s va p ≡ shaped (accessed s va p) (translate (accessed s va p .shape) va p)
@@ -74,10 +79,6 @@ same-history : (s : State) (k x : ℕ) → set (s .shape .cache .history) k x �
 same-history s k x e i =
     shaped s (withCache (s .shape) (record { lineAddress = s .shape .cache .lineAddress; linePage = s .shape .cache .linePage; history = e i }))
 
-pub history-kept : (s : State) (k : ℕ) → put historyField s k (at (s .shape .cache .history) k) ≡ s
-unfolding put
-history-kept s k = same-history s k (at (s .shape .cache .history) k) (set-getD (s .shape .cache .history) k 0)
-
 -- ---- an access
 
 module _ (s : State) (va p : ℕ) where
@@ -107,60 +108,273 @@ module _ (s : State) (va p : ℕ) where
   access-hit : Sized s → isCacheable (s .shape) p ≡ true → ltb (hitWay (s .shape) va p) ways ≡ true → accessed s va p ≡ s
   access-hit z c h = still z (hit-history c h) (hit-no-miss h)
 
-  access-miss : isCacheable (s .shape) p ≡ true → ltb (hitWay (s .shape) va p) ways ≡ false → accessed s va p ≡ missed s (setOf va) va p
+  access-miss : isCacheable (s .shape) p ≡ true → ltb (hitWay (s .shape) va p) ways ≡ false → accessed s va p ≡ missed s (setOf va) (wayFor (s .shape) (setOf va)) va p
   unfolding accessed missed missLine accessHistory accessWay
   access-miss c h = rw (c, h)
 
--- ---- the code's steps, with the states in between
+-- ---- what is found, and what is stored
 
--- a line that enters, by the way that its set names
-pub enters-set : (s : State) (k va p w : ℕ) (x y : Set) (t u v : State) → p < pages → x ≡ setFrom s k → w ≡ placeIn x → y ≡ enteredIn x w
-    → t ≡ put historyField s k (y .history) → u ≡ takeOut t (lineAt k w) → v ≡ pick (isPage p) (enter u (lineAt k w) va p) u → v ≡ missed s k va p
+module _ (s : State) (va p : ℕ) where
+  found-memory : isCacheable (s .shape) p ≡ false → at (s .values .memory) p ≡ found s va p
+  unfolding found
+  found-memory c = rw c
+
+  stored-memory : (n : ℕ) → isCacheable (s .shape) p ≡ false → length (s .values .line) ≡ lines → putMemory s p n ≡ store s va p n
+  unfolding putMemory store
+  stored-memory n c l =
+      let e = set-out (s .values .line) noLine n (omega arith) in
+      rw c (λ i. record { shape = s .shape; values = record { memory = set (s .values .memory) p n; line = sym e i } })
+
+  module _ (c : isCacheable (s .shape) p ≡ true) where
+    found-line : (w : ℕ) → hitWay (s .shape) va p ≡ w → w < ways → at (s .values .line) (lineAt (setOf va) w) ≡ found s va p
+    unfolding found
+    found-line w e h =
+        let i : lineAt (setOf va) w ≡ lineOf (s .shape) va p = rw (e, lt-ltb w ways h) in
+        ap (at (s .values .line)) i ∙ sym (pick-yes (at (s .values .line) (lineOf (s .shape) va p)) (at (s .values .memory) p) c)
+
+    stored-line : (n w : ℕ) → hitWay (s .shape) va p ≡ w → w < ways → length (s .values .memory) ≡ pages
+        → putLine s (lineAt (setOf va) w) n ≡ store s va p n
+    unfolding putLine store
+    stored-line n w e h m =
+        let o = set-out (s .values .memory) nowhere n (omega arith) in
+        rw (c, e, lt-ltb w ways h) (λ i. record { shape = s .shape; values = record { memory = sym o i; line = set (s .values .line) (lineAt (setOf va) w) n } })
+
+    found-nowhere : hitWay (s .shape) va p ≡ ways → length (s .values .line) ≡ lines → 0 ≡ found s va p
+    unfolding found
+    found-nowhere e l = rw (c, e) (sym (at-past (s .values .line) noLine (omega arith)))
+
+    stored-nowhere : (n : ℕ) → hitWay (s .shape) va p ≡ ways → length (s .values .memory) ≡ pages → length (s .values .line) ≡ lines → s ≡ store s va p n
+    unfolding store
+    stored-nowhere n e m l =
+        let o = set-out (s .values .memory) nowhere n (omega arith) in
+        let q = set-out (s .values .line) noLine n (omega arith) in
+        rw (c, e) (λ i. record { shape = s .shape; values = record { memory = sym o i; line = sym q i } })
+
+  -- what is found, stored there again
+  store-found : length (s .values .memory) ≡ pages → length (s .values .line) ≡ lines → store s va p (found s va p) ≡ s
+  unfolding store found
+  store-found m l =
+      let v = s .values in
+      let i = lineOf (s .shape) va p in
+      split (isCacheable (s .shape) p)
+      (λ c.
+      let o = set-out (v .memory) nowhere (at (v .line) i) (omega arith) in
+      rw c (λ j. record { shape = s .shape; values = record { memory = o j; line = set-getD (v .line) i 0 j } }))
+      (λ c.
+      let o = set-out (v .line) noLine (at (v .memory) p) (omega arith) in
+      rw c (λ j. record { shape = s .shape; values = record { memory = set-getD (v .memory) p 0 j; line = o j } }))
+
+-- ---- an access for a purpose
+
+module _ (s : State) (va p : ℕ) (z : Sized s) where
+  accessed-memory : length (accessed s va p .values .memory) ≡ pages
+  unfolding accessed takeOut enter
+  accessed-memory = length-set (s .values .memory) _ _ ∙ z .memory
+
+  accessed-line : length (accessed s va p .values .line) ≡ lines
+  unfolding accessed takeOut enter
+  accessed-line = length-set (set (s .values .line) _ 0) _ _ ∙ length-set (s .values .line) _ 0 ∙ z .line
+
+  accesses : (q : Purpose) (v : ℕ) (t u : State) → accessed s va p ≡ t → v ≡ found t va p → u ≡ store t va p (after q v) → Accesses s va p q v u
+  unfolding accessedFor
+  accesses Read v t u a e f =
+      let b = e ∙ ap (λ (x : State). found x va p) (sym a) in
+      record {
+        value = b;
+        state = f ∙ (λ j. store (sym a j) va p (b j)) ∙ store-found (accessed s va p) va p accessed-memory accessed-line;
+      }
+  accesses (Write n) v t u a e f =
+      record { value = e ∙ ap (λ (x : State). found x va p) (sym a); state = f ∙ ap (λ (x : State). store x va p n) (sym a) }
+
+  pub access-memory : isCacheable (s .shape) p ≡ false → (q : Purpose) (v n : ℕ) (u : State) → v ≡ at (s .values .memory) p → n ≡ after q v → u ≡ putMemory s p n
+      → Accesses s va p q v u
+  access-memory c q v n u e f g =
+      accesses q v s u (access-none s va p z c) (e ∙ found-memory s va p c)
+      (g ∙ ap (putMemory s p) f ∙ stored-memory s va p (after q v) c (z .line))
+
+-- ---- the code's steps, with what is in between: x is the set of va
+
+-- a line stored with another value
+value-stored : (s : State) (i n : ℕ) → putWhole s i (lineWith (at (s .shape .cache .lineAddress) i) (at (s .shape .cache .linePage) i) n) ≡ putLine s i n
+unfolding putWhole putLine
+value-stored s i n j =
+    record {
+      shape =
+          withCache (s .shape)
+          (record {
+            lineAddress = set-getD (s .shape .cache .lineAddress) i 0 j;
+            linePage = set-getD (s .shape .cache .linePage) i 0 j;
+            history = s .shape .cache .history;
+          });
+      values = record { memory = s .values .memory; line = set (s .values .line) i n };
+    }
+
+module _ (s : State) (va p : ℕ) (z : Sized s) (c : isCacheable (s .shape) p ≡ true) (x : Set) (ex : x ≡ setFrom s (setOf va)) where
+  is-found : findIn x va p ≡ hitWay (s .shape) va p
+  is-found = ap (λ (t : Set). findIn t va p) ex ∙ find-is-hit s va p (cacheable-page s p z c)
+
+  is-line : (w : ℕ) → w < ways → wayIn x w ≡ lineFrom s (lineAt (setOf va) w)
+  is-line w h = ap (λ (t : Set). wayIn t w) ex ∙ way-is s (setOf va) w h
+
+  pub access-hits : (w : ℕ) → w ≡ findIn x va p → w < ways → (q : Purpose) (n : ℕ) (y t : Set) (u : State) → n ≡ after q (wayIn x w .value)
+      → y ≡ replacedIn x w (lineWith (wayIn x w .address .0) (wayIn x w .page .0) n) → t ≡ usedIn y w → u ≡ putBack s (setOf va) t
+      → Accesses s va p q (wayIn x w .value) u
+  unfolding putWhole
+  access-hits w ew h q n y t u en ey et eu =
+      let k = setOf va in
+      let i = lineAt k w in
+      let e : hitWay (s .shape) va p ≡ w = sym (ew ∙ is-found) in
+      let v = ap (λ (l : Line). l .value) (is-line w h) in
+      let m : Line = lineWith (at (s .shape .cache .lineAddress) i) (at (s .shape .cache .linePage) i) n in
+      let b : t ≡ usedIn (replacedIn (setFrom s k) w m) w =
+      et ∙ ap (λ (a : Set). usedIn a w) (ey ∙ (λ j. replacedIn (ex j) w (lineWith (is-line w h j .address .0) (is-line w h j .page .0) n))) in
+      accesses s va p z q (wayIn x w .value) s u (access-hit s va p z c (lt-ltb (hitWay (s .shape) va p) ways (omega arith)))
+      (v ∙ found-line s va p c w e h)
+      (eu ∙ ap (putBack s k) b ∙ put-back-replaced s k w (at (s .shape .cache .history) k) m h ∙ history-kept (putWhole s i m) k
+      ∙ value-stored s i n
+      ∙ ap (putLine s i) en
+      ∙ stored-line s va p c (after q (wayIn x w .value)) w e h (z .memory))
+
+  module _ (m : ways ≤ findIn x va p) (w : ℕ) (ew : w ≡ placeIn x) where
+    misses : accessed s va p ≡ missed s (setOf va) w va p
+    misses =
+        access-miss s va p c (le-ltb (hitWay (s .shape) va p) ways (omega (arith, is-found)))
+        ∙ ap (λ (a : ℕ). missed s (setOf va) a va p) (sym (ew ∙ ap placeIn ex ∙ place-is-way s (setOf va)))
+
+    -- no way but the one that the line enters has the key afterwards
+    others : (j : ℕ) → j < ways → j ≢ w → hasKey (missed s (setOf va) w va p .shape) va p (lineAt (setOf va) j) ≡ false
+    unfolding missed takeOut enter hitWay
+    others j b d =
+        let C = s .shape .cache in
+        let k = setOf va in
+        let i = lineAt k w in
+        let n : lineAt k j ≢ i = λ e. d (omega arith) in
+        let e = at-other (set (C .linePage) i 0) i (suc p) (lineAt k j) n ∙ at-other (C .linePage) i 0 (lineAt k j) n in
+        let a = at-other (set (C .lineAddress) i 0) i va (lineAt k j) n ∙ at-other (C .lineAddress) i 0 (lineAt k j) n in
+        (λ t. eqb (e t) (suc p) && eqb (a t) va)
+        ∙ firstBelow-before (λ w. hasKey (s .shape) va p (lineAt k w)) ways j (omega (arith, is-found))
+
+    entered-there : w < ways → hitWay (missed s (setOf va) w va p .shape) va p ≡ w
+    unfolding missed takeOut enter hitWay
+    entered-there h =
+        let C = s .shape .cache in
+        let i = lineAt (setOf va) w in
+        let e = at-same (set (C .linePage) i 0) i (suc p) (omega (arith, length-set (C .linePage) i 0, z .linePage)) in
+        let a = at-same (set (C .lineAddress) i 0) i va (omega (arith, length-set (C .lineAddress) i 0, z .lineAddress)) in
+        firstBelow-is (λ j. hasKey (missed s (setOf va) w va p .shape) va p (lineAt (setOf va) j)) ways w h
+        (λ t. eq-eqb (at (set (set (C .linePage) i 0) i (suc p)) i) (suc p) e t && eq-eqb (at (set (set (C .lineAddress) i 0) i va) i) va a t)
+        (λ j b. others j (omega arith) (omega arith))
+
+    entered-nowhere : ways ≤ w → hitWay (missed s (setOf va) w va p .shape) va p ≡ ways
+    unfolding hitWay
+    entered-nowhere h =
+        firstBelow-none (λ j. hasKey (missed s (setOf va) w va p .shape) va p (lineAt (setOf va) j)) ways (λ j b. others j b (omega arith))
+
+    missed-memory : length (missed s (setOf va) w va p .values .memory) ≡ pages
+    unfolding missed takeOut enter
+    missed-memory = length-set (s .values .memory) _ _ ∙ z .memory
+
+    missed-line : length (missed s (setOf va) w va p .values .line) ≡ lines
+    unfolding missed takeOut enter
+    missed-line = length-set (set (s .values .line) _ 0) _ _ ∙ length-set (s .values .line) _ 0 ∙ z .line
+
+    found-entered : w < ways → found (missed s (setOf va) w va p) va p ≡ at (takeOut s (lineAt (setOf va) w) .values .memory) p
+    unfolding missed takeOut enter
+    found-entered h =
+        let i = lineAt (setOf va) w in
+        sym (found-line (missed s (setOf va) w va p) va p c w (entered-there h) h)
+        ∙ at-same (set (s .values .line) i 0) i (at (takeOut s i .values .memory) p) (omega (arith, length-set (s .values .line) i 0, z .line))
+
+    -- the line saved, and the set put back with the line that enters
+    miss-put : (n : ℕ)
+        → put historyField
+        (putWhole
+        (putMemory s (lead (at (s .shape .cache .linePage) (lineAt (setOf va) w))) (at (s .values .line) (lineAt (setOf va) w)))
+        (lineAt (setOf va) w)
+        (lineTo va p n))
+        (setOf va)
+        (entered (at (s .shape .cache .history) (setOf va)) w)
+        ≡ putLine (missed s (setOf va) w va p) (lineAt (setOf va) w) n
+    unfolding put putWhole putMemory putLine missed takeOut enter
+    miss-put n =
+        let C = s .shape .cache in
+        let k = setOf va in
+        let i = lineAt k w in
+        let M = set (s .values .memory) (lead (at (C .linePage) i)) (at (s .values .line) i) in
+        let a = set-set (C .lineAddress) i 0 va in
+        let e = set-set (C .linePage) i 0 (suc p) in
+        let l = set-set (set (s .values .line) i 0) i (at M p) n ∙ set-set (s .values .line) i 0 n in
+        λ j.
+        record {
+          shape = withCache (s .shape) (record { lineAddress = sym a j; linePage = sym e j; history = set (C .history) k (entered (at (C .history) k) w) });
+          values = record { memory = M; line = sym l j };
+        }
+
+    pub access-misses : w < ways → (q : Purpose) (v n : ℕ) (r : State) (l : Line) (y t : Set) (u : State)
+        → r ≡ putMemory s (lead (wayIn x w .page .0)) (wayIn x w .value)
+        → v ≡ at (r .values .memory) p
+        → n ≡ after q v
+        → l ≡ lineTo va p n
+        → y ≡ replacedIn x w l
+        → t ≡ enteredIn y w
+        → u ≡ putBack r (setOf va) t
+        → Accesses s va p q v u
+    unfolding putMemory missed takeOut enter
+    access-misses h q v n r l y t u er ev en el ey et eu =
+        let k = setOf va in
+        let i = lineAt k w in
+        let b = missed s k w va p in
+        let d : State = putMemory s (lead (at (s .shape .cache .linePage) i)) (at (s .values .line) i) in
+        let er′ : r ≡ d = er ∙ ap (λ (a : Line). putMemory s (lead (a .page .0)) (a .value)) (is-line w h) in
+        let to : Line = lineTo va p (after q v) in
+        let et′ : t ≡ enteredIn (replacedIn (setFrom s k) w to) w =
+        et ∙ ap (λ (a : Set). enteredIn a w) (ey ∙ (λ j. replacedIn (ex j) w ((el ∙ ap (lineTo va p) en) j))) in
+        accesses s va p z q v b u misses
+        (ev ∙ ap (λ (a : State). at (a .values .memory) p) er′ ∙ sym (found-entered h))
+        (eu ∙ (λ j. putBack (er′ j) k (et′ j)) ∙ put-back-replaced d k w (entered (at (s .shape .cache .history) k) w) to h ∙ miss-put (after q v)
+        ∙ stored-line b va p c (after q v) w (entered-there h) h missed-memory)
+
+    pub access-past : ways ≤ w → (q : Purpose) (u : State) → u ≡ missed s (setOf va) w va p → Accesses s va p q 0 u
+    unfolding missed takeOut enter
+    access-past h q u eu =
+        let b = missed s (setOf va) w va p in
+        accesses s va p z q 0 b u misses (found-nowhere b va p c (entered-nowhere h) missed-line)
+        (eu ∙ stored-nowhere b va p c (after q 0) (entered-nowhere h) missed-memory missed-line)
+
+-- a line that enters past the last way of its set
+pub enters-past : (s : State) (k w va p : ℕ) (x y : Set) (t u v : State) → p < pages → x ≡ setFrom s k → y ≡ enteredIn x w → t ≡ putBack s k y
+    → u ≡ takeOut t (lineAt k w) → v ≡ pick (isPage p) (enter u (lineAt k w) va p) u
+    → v ≡ missed s k w va p
 unfolding put missed
-enters-set s k va p w x y t u v h ex ew ey et eu ev =
-    let e : w ≡ wayFor (s .shape) k = ew ∙ ap placeIn ex ∙ place-is-way s k in
-    let b : t ≡ shaped s (setHistory (s .shape) k (entered (at (s .shape .cache .history) k) w)) =
-    et ∙ ap (λ (n : ℕ). put historyField s k n) (ap (λ (z : Set). z .history) ey) in
+enters-past s k w va p x y t u v h ex ey et eu ev =
+    let b : t ≡ put historyField s k (entered (at (s .shape .cache .history) k) w) =
+    et ∙ ap (putBack s k) (ey ∙ ap (λ (a : Set). enteredIn a w) ex) ∙ put-back-history s k (entered (at (s .shape .cache .history) k) w) in
     ev ∙ pick-yes (enter u (lineAt k w) va p) u (lt-ltb p pages h)
-    ∙ ap (λ (z : State). enter z (lineAt k w) va p) (eu ∙ ap (λ (z : State). takeOut z (lineAt k w)) b)
-    ∙ ap
-    (λ (w : ℕ). enter (takeOut (shaped s (setHistory (s .shape) k (entered (at (s .shape .cache .history) k) w))) (lineAt k w)) (lineAt k w) va p)
-    e
+    ∙ ap (λ (a : State). enter a (lineAt k w) va p) (eu ∙ ap (λ (a : State). takeOut a (lineAt k w)) b)
 
-module _ (s : State) (va p : ℕ) (z : Sized s) (c : isCacheable (s .shape) p ≡ true) (x : Set) (w : ℕ) (ex : x ≡ setFrom s (setOf va)) (ew : w ≡ findIn x va p) where
-  found : hitWay (s .shape) va p ≡ w
-  found = sym (ew ∙ ap (λ (t : Set). findIn t va p) ex ∙ find-is-hit s va p (cacheable-page s p z c))
+-- ---- what is found after an access
 
-  is-hit : w < ways → ltb (hitWay (s .shape) va p) ways ≡ true
-  is-hit h = lt-ltb (hitWay (s .shape) va p) ways (omega (arith, found))
+module _ (s : State) (va p : ℕ) (z : Sized s) where
+  pub found-uncached : isCacheable (s .shape) p ≡ false → found (accessed s va p) va p ≡ at (s .values .memory) p
+  found-uncached c = ap (λ (t : State). found t va p) (access-none s va p z c) ∙ sym (found-memory s va p c)
 
-  is-miss : ways ≤ w → ltb (hitWay (s .shape) va p) ways ≡ false
-  is-miss h = le-ltb (hitWay (s .shape) va p) ways (omega (arith, found))
+  pub found-hit : isCacheable (s .shape) p ≡ true → hitWay (s .shape) va p < ways
+      → found (accessed s va p) va p ≡ at (s .values .line) (lineAt (setOf va) (hitWay (s .shape) va p))
+  found-hit c h =
+      ap (λ (t : State). found t va p) (access-hit s va p z c (lt-ltb (hitWay (s .shape) va p) ways h))
+      ∙ sym (found-line s va p c (hitWay (s .shape) va p) refl h)
 
-  pub accessed-hit : w < ways → (y : Set) (t : State) → y ≡ usedIn x w → t ≡ put historyField s (setOf va) (y .history) → t ≡ accessed s va p
-  accessed-hit h y t ey et =
-      et ∙ ap (λ (n : ℕ). put historyField s (setOf va) n) (ap (λ (q : Set). q .history) (ey ∙ ap (λ (q : Set). usedIn q w) ex))
-      ∙ history-kept s (setOf va)
-      ∙ sym (access-hit s va p z c (is-hit h))
+  -- memory's, after the line that was in the way is taken out
+  pub found-miss : isCacheable (s .shape) p ≡ true → ways ≤ hitWay (s .shape) va p → wayFor (s .shape) (setOf va) < ways
+      → found (accessed s va p) va p ≡ at (takeOut s (lineAt (setOf va) (wayFor (s .shape) (setOf va))) .values .memory) p
+  found-miss c m h =
+      let x = setFrom s (setOf va) in
+      let k : ways ≤ findIn x va p = omega (arith, is-found s va p z c x refl) in
+      let e = sym (place-is-way s (setOf va)) in
+      ap (λ (t : State). found t va p) (misses s va p z c x refl k (wayFor (s .shape) (setOf va)) e)
+      ∙ found-entered s va p z c x refl k (wayFor (s .shape) (setOf va)) e h
 
-  pub accessed-miss : ways ≤ w → (t : State) → t ≡ missed s (setOf va) va p → t ≡ accessed s va p
-  accessed-miss h t et = et ∙ sym (access-miss s va p c (is-miss h))
-
-  pub stored-hit : (v : ℕ) → w < ways → (t : State) → t ≡ putLine s (lineAt (setOf va) w) v → t ≡ store s va p v
-  unfolding putLine store
-  stored-hit v h t et =
-      let m = set-out (s .values .memory) nowhere v (omega (arith, z .memory)) in
-      et ∙ rw (c, is-hit h, found) (λ i. record { shape = s .shape; values = record { memory = sym m i; line = set (s .values .line) (lineAt (setOf va) w) v } })
-
-  pub stored-miss : (v : ℕ) → ways ≤ w → s ≡ store s va p v
-  unfolding store
-  stored-miss v h =
-      let m = set-out (s .values .memory) nowhere v (omega (arith, z .memory)) in
-      let l = set-out (s .values .line) noLine v (omega (arith, z .line)) in
-      rw (c, is-miss h) (λ i. record { shape = s .shape; values = record { memory = sym m i; line = sym l i } })
-
-pub stored-memory : (s : State) (va p v : ℕ) → Sized s → isCacheable (s .shape) p ≡ false → (t : State) → t ≡ putMemory s p v → t ≡ store s va p v
-unfolding putMemory store
-stored-memory s va p v z c t et =
-    let l = set-out (s .values .line) noLine v (omega (arith, z .line)) in
-    et ∙ rw c (λ i. record { shape = s .shape; values = record { memory = set (s .values .memory) p v; line = sym l i } })
+-- the TLB has no part in it
+pub found-read : (s : State) (va p : ℕ) → found (readStep s va p) va p ≡ found (accessed s va p) va p
+unfolding found hitWay
+found-read s va p = ap (λ (t : State). found t va p) (read-is-access s va p)

@@ -18,6 +18,7 @@ use Rattle.model.specs.State.{State, isPage, lineOfPage, present}
 use Rattle.model.specs.Parts.{withCache, cleared, takeOutPage}
 use Rattle.model.specs.Valid.{Sized}
 use Rattle.host.specs.View.{putMemory}
+use Rattle.cache.specs.Sets.{emptyLine}
 use Rattle.cache.specs.Lines.{putWhole, isOf, zeroed, clearedBelow}
 
 -- ---- one list
@@ -90,7 +91,7 @@ cleared-none s p z =
     }
 
 -- line n emptied if it is of the page
-pub cleared-more : (s : State) (p n : ℕ) → n < lines → (t u : State) → t ≡ clearedBelow n s p → u ≡ pick (isOf (t .shape) p n) (putWhole t n 0 0 0) t
+pub cleared-more : (s : State) (p n : ℕ) → n < lines → (t u : State) → t ≡ clearedBelow n s p → u ≡ pick (isOf (t .shape) p n) (putWhole t n emptyLine) t
     → u ≡ clearedBelow (n + 1) s p
 unfolding clearedBelow putWhole
 cleared-more s p n b t u et eu =
@@ -103,7 +104,7 @@ cleared-more s p n b t u et eu =
     let a = zeroed-set P p (C .lineAddress) n b e in
     let q = zeroed-set P p P n b e in
     let v = zeroed-set P p (s .values .line) n b e in
-    eu ∙ pick-yes (putWhole t n 0 0 0) t (f ∙ e) ∙ ap (λ (x : State). putWhole x n 0 0 0) et
+    eu ∙ pick-yes (putWhole t n emptyLine) t (f ∙ e) ∙ ap (λ (x : State). putWhole x n emptyLine) et
     ∙ (λ i. record {
       shape = withCache (s .shape) (record { lineAddress = a i; linePage = q i; history = C .history });
       values = record { memory = s .values .memory; line = v i };
@@ -112,7 +113,7 @@ cleared-more s p n b t u et eu =
     let a = zeroed-same P p (C .lineAddress) n b e in
     let q = zeroed-same P p P n b e in
     let v = zeroed-same P p (s .values .line) n b e in
-    eu ∙ pick-not (putWhole t n 0 0 0) t (f ∙ e) ∙ et
+    eu ∙ pick-not (putWhole t n emptyLine) t (f ∙ e) ∙ et
     ∙ (λ i. record {
       shape = withCache (s .shape) (record { lineAddress = a i; linePage = q i; history = C .history });
       values = record { memory = s .values .memory; line = v i };
@@ -121,7 +122,7 @@ cleared-more s p n b t u et eu =
 -- ---- a page
 
 -- its value in memory, and no line
-pub taken-page : (s : State) (p v : ℕ) → p < pages → v ≡ pick (isPage p) (present s p) 0 → (t u : State) → t ≡ putMemory s p v → u ≡ clearedBelow lines t p
+pub taken-page : (s : State) (p v : ℕ) → p < pages → v ≡ present s p → (t u : State) → t ≡ putMemory s p v → u ≡ clearedBelow lines t p
     → u ≡ pick (isPage p) (takeOutPage s p) s
 unfolding clearedBelow putMemory takeOutPage
 taken-page s p v h e t u et eu =
@@ -129,19 +130,18 @@ taken-page s p v h e t u et eu =
     let a = zeroed-all (C .linePage) p (C .lineAddress) in
     let q = zeroed-all (C .linePage) p (C .linePage) in
     let w = zeroed-all (C .linePage) p (s .values .line) in
-    let m : v ≡ present s p = e ∙ pick-yes (present s p) 0 (lt-ltb p pages h) in
     eu ∙ ap (λ (x : State). clearedBelow lines x p) et
     ∙ (λ i. record {
       shape = withCache (s .shape) (record { lineAddress = a i; linePage = q i; history = C .history });
-      values = record { memory = set (s .values .memory) p (m i); line = w i };
+      values = record { memory = set (s .values .memory) p (e i); line = w i };
     })
     ∙ sym (pick-yes (takeOutPage s p) s (lt-ltb p pages h))
 
-module _ (s : State) (p i : ℕ) (h : p < pages) (e : i ≡ lineOfPage (s .shape) p) where
-  pub present-line : i < lines → (v : ℕ) → v ≡ at (s .values .line) i → v ≡ pick (isPage p) (present s p) 0
+module _ (s : State) (p i : ℕ) (e : i ≡ lineOfPage (s .shape) p) where
+  pub present-line : i < lines → (v : ℕ) → v ≡ at (s .values .line) i → v ≡ present s p
   unfolding present
-  present-line l v ev = ev ∙ rw (lt-ltb p pages h, ← e, lt-ltb i lines l)
+  present-line l v ev = ev ∙ rw (← e, lt-ltb i lines l)
 
-  pub present-memory : lines ≤ i → (v : ℕ) → v ≡ at (s .values .memory) p → v ≡ pick (isPage p) (present s p) 0
+  pub present-memory : lines ≤ i → (v : ℕ) → v ≡ at (s .values .memory) p → v ≡ present s p
   unfolding present
-  present-memory l v ev = ev ∙ rw (lt-ltb p pages h, ← e, le-ltb i lines l)
+  present-memory l v ev = ev ∙ rw (← e, le-ltb i lines l)

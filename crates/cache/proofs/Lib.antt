@@ -2,3 +2,4 @@ pub mod Sets
 pub mod Whole
 pub mod Accesses
 pub mod Cleared
+pub mod Answers

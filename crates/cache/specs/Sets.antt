@@ -1,50 +1,54 @@
 -- A set of the cache as a value, read from a state, and what is done with one.
 -- Assumes nothing.
-use mathlib.Core.Bool.{Bool, false, _&&_}
-use mathlib.Core.List.{[], _∷_}
-use Prim.Native.Nat.{ℕ}
+use mathlib.Core.Bool.{Bool, _&&_}
+use Prim.Native.Nat.{ℕ, suc}
 use lib.Dec.{ltb, eqb}
 use lib.ListN.{getD, set}
 use Rattle.laws.specs.Choice.{pick, at}
-use Rattle.laws.specs.Search.{firstBelow}
+use Rattle.laws.specs.Search.{firstBelow, listOf}
 use Rattle.model.specs.Sizes.{ways}
 use Rattle.model.specs.State.{State, lineAt}
 use Rattle.model.specs.History.{oldest, used, entered}
-use Rattle.host.specs.declared.Lead.the-variants.{To}
-use Rattle.host.specs.Lead.{ma, leadOf, leadsAt}
+use Rattle.host.specs.Lead.{leadOf, leadsAt}
 use Rattle.cache.specs.declared.Line.{Line}
 use Rattle.cache.specs.declared.Set.{Set}
 
+-- the line of address va that holds e, with the value v
+abbrev pub lineWith : ℕ → ℕ → ℕ → Line
+lineWith va e v = record { address = record { 0 = va }; page = record { 0 = e }; value = v }
+
 -- line i, and set k, of a state
 abbrev pub lineFrom : State → ℕ → Line
-lineFrom s i =
-    record {
-      address = record { 0 = at (s .shape .cache .lineAddress) i };
-      page = leadOf (at (s .shape .cache .linePage) i);
-      empty = eqb (at (s .shape .cache .linePage) i) 0;
-      value = at (s .values .line) i;
-    }
+lineFrom s i = lineWith (at (s .shape .cache .lineAddress) i) (at (s .shape .cache .linePage) i) (at (s .values .line) i)
 
 abbrev pub setFrom : State → ℕ → Set
-setFrom s k = record { ways = lineFrom s (lineAt k 0) ∷ lineFrom s (lineAt k 1) ∷ []; history = at (s .shape .cache .history) k }
+setFrom s k = record { ways = listOf ways (λ w. lineFrom s (lineAt k w)); history = at (s .shape .cache .history) k }
 
--- way w of a set; past the last, the line of zeros, which no code reads
-abbrev pub noWay : Line
-noWay = record { address = record { 0 = 0 }; page = To (ma 0); empty = false; value = 0 }
+-- the empty line: every number 0
+abbrev pub emptyLine : Line
+emptyLine = lineWith 0 0 0
 
+-- the line (va, p) with the value v
+abbrev pub lineTo : ℕ → ℕ → ℕ → Line
+lineTo va p v = lineWith va (suc p) v
+
+-- way w of a set; past the last, the empty line, which no code reads
 abbrev pub wayIn : Set → ℕ → Line
-wayIn t w = getD (t .ways) w noWay
+wayIn t w = getD (t .ways) w emptyLine
 
 abbrev pub hasKeyIn : Line → ℕ → ℕ → Bool
-hasKeyIn l va p = leadsAt (l .page) p && eqb (l .address .0) va
+hasKeyIn l va p = leadsAt (leadOf (l .page .0)) p && eqb (l .address .0) va
 
 -- the way that has the key, or `ways`
 unfoldable pub findIn : Set → ℕ → ℕ → ℕ
 findIn t va p = firstBelow ways (λ w. hasKeyIn (wayIn t w) va p)
 
+abbrev pub isEmptyIn : Line → Bool
+isEmptyIn l = eqb (l .page .0) 0
+
 -- the lower empty way, or `ways`
 unfoldable pub emptyWay : Set → ℕ
-emptyWay t = firstBelow ways (λ w. wayIn t w .empty)
+emptyWay t = firstBelow ways (λ w. isEmptyIn (wayIn t w))
 
 -- the way for a line that enters: the lower empty one; if none, the one the history names
 unfoldable pub placeIn : Set → ℕ

@@ -1,30 +1,27 @@
-// One set of the cache as an array of two lines, taken by value, one way replaced, handed back; and the cache in the host's bytes.
+// One set of the cache as an array of lines, taken by value, one way replaced, handed back; loaded from the host's bytes and put back there.
 mod lines;
 
+use host::Held;
 use host::Host;
-use host::Lead;
 use host::Ma;
 use host::Va;
 pub use lines::access;
 pub use lines::fill;
-pub use lines::present;
-pub use lines::store;
 pub use lines::take_out;
 pub use lines::take_out_page;
 ghost use mathlib.Core.Path.{_≡_};
-ghost use Prim.Native.Nat.{_≤_};
+ghost use Prim.Native.Nat.{_≤_, _<_};
 ghost use Rattle.model.specs.Sizes.{sets};
 ghost use Rattle.host.specs.View.{view};
 ghost use Rattle.cache.specs.Sets.{lineFrom, setFrom, hasKeyIn, findIn, emptyWay, placeIn, replacedIn, usedIn, enteredIn};
+ghost use Rattle.cache.specs.Lines.{putWhole, putBack};
 
 pub const WAYS: usize = host::WAYS;
 
-// A line: its address, the page it leads to, whether it is empty, and its value.
-// A damaged line may be neither empty nor lead to a page.
+// A line: its address, what it holds of a page, and its value.
 pub struct Line {
     pub address: Va,
-    pub page: Lead,
-    pub empty: bool,
+    pub page: Held,
     pub value: u32,
 }
 
@@ -34,13 +31,19 @@ pub struct Set {
     pub history: u8,
 }
 
+// What an access is for: to read, or to write a value.
+pub enum Purpose {
+    Read,
+    Write(u32),
+}
+
 // ---- a set by value
 
 // Whether the line has the key: page and address.
 pub fn has_key(l: Line, a: Va, p: Ma) -> bool
     ensures { λ r. ⌜ r ≡ hasKeyIn l (a .0) (p .0) ⌝ }
 {
-    let to = l.page;
+    let to = host::lead_in(l.page);
     host::leads_to(to, p) && l.address.0 == a.0
 }
 
@@ -63,7 +66,7 @@ fn empty_way(s: Set) -> usize
 {
     for w in 0..WAYS {
         let l = s.ways[w];
-        if l.empty {
+        if host::is_empty(l.page) {
             return w;
         }
     }
@@ -100,14 +103,14 @@ pub fn used(s: Set, w: usize) -> Set
     }
 }
 
-// After a line entered way w: the history names the other way.
+// After a line entered way w: the history names the next way, after the last the first.
 pub fn entered(s: Set, w: usize) -> Set
     ensures { λ r. ⌜ r ≡ enteredIn s w ⌝ }
 {
     let ways = s.ways;
     Set {
         ways,
-        history: if w == 0 { 1 } else { 0 },
+        history: if w < WAYS - 1 { (w + 1) as u8 } else { 0 },
     }
 }
 
@@ -118,8 +121,7 @@ fn line_at(h: &Host, i: usize) -> Line
 {
     Line {
         address: host::line_address(h, i),
-        page: host::line_page(h, i),
-        empty: host::line_empty(h, i),
+        page: host::line_held(h, i),
         value: host::line_value(h, i),
     }
 }
@@ -145,5 +147,35 @@ pub fn load(h: &Host, k: usize) -> Set
         set_at(h, k)
     } else {
         set_at(h, host::SETS)
+    }
+}
+
+// Line i is l; nothing past the last.
+fn put_line(h: &mut Host, i: usize, l: Line)
+    ensures { λ _. ⌜ view (now (h .exit)) ≡ putWhole (view (now (h .entry))) i l ⌝ }
+{
+    host::set_line_address(h, i, l.address);
+    host::set_line_held(h, i, l.page);
+    host::set_line_value(h, i, l.value);
+}
+
+fn put_set(h: &mut Host, k: usize, s: Set)
+    requires { ⌜ k < sets ⌝ }
+    ensures { λ _. ⌜ view (now (h .exit)) ≡ putBack (view (now (h .entry))) k s ⌝ }
+{
+    for w in 0..WAYS {
+        let l = s.ways[w];
+        put_line(h, WAYS * k + w, l);
+    }
+    host::set_history(h, k, s.history);
+}
+
+// Set k is s, each way and the history: all that writes a line of the bytes. Nothing past the last set.
+pub fn put_back(h: &mut Host, k: usize, s: Set)
+    ensures { λ _. ⌜ view (now (h .exit)) ≡ putBack (view (now (h .entry))) k s ⌝ }
+{
+    host::whole(h);
+    if k < host::SETS {
+        put_set(h, k, s);
     }
 }

@@ -1,10 +1,15 @@
 // The cache in the host's bytes: lines taken out, lines that enter, and what an access does.
+use super::Line;
+use super::Purpose;
 use super::Set;
 use super::WAYS;
 use super::entered;
 use super::find;
+use super::line_at;
 use super::load;
 use super::place;
+use super::put_back;
+use super::replaced;
 use super::used;
 use host::Host;
 use host::Lead;
@@ -12,37 +17,56 @@ use host::Ma;
 use host::Va;
 ghost use mathlib.Core.Path.{_≡_};
 ghost use mathlib.Core.Bool.{true};
-ghost use Prim.Native.Nat.{_<_};
+ghost use Prim.Native.Nat.{_≤_, _<_};
 ghost use Rattle.laws.specs.Choice.{pick};
-ghost use Rattle.model.specs.Sizes.{pages, sets, lines};
-ghost use Rattle.model.specs.State.{isPage, isCacheable, lineOfPage, present};
+ghost use Rattle.model.specs.Sizes.{pages, sets, ways, lines, byteBound, setOf};
+ghost use Rattle.model.specs.State.{lead, isPage, isCacheable, lineOfPage, present};
 ghost use Rattle.model.specs.Parts.{takeOut, takeOutPage, enter};
-ghost use Rattle.model.specs.Write.{store};
-ghost use Rattle.host.specs.Lead.{heldOf};
-ghost use Rattle.host.specs.View.{view};
-ghost use Rattle.cache.specs.Sets.{setFrom};
-ghost use Rattle.cache.specs.Lines.{putWhole, saved, accessed, missed, isOf, clearedBelow};
+ghost use Rattle.host.specs.View.{view, putMemory};
+ghost use Rattle.cache.specs.Sets.{setFrom, findIn, emptyLine, lineTo};
+ghost use Rattle.cache.specs.Lines.{putWhole, after, missed, Accesses, isOf, clearedBelow};
 
 // ---- one line
 
-// Line i stored whole; nothing past the last.
-fn put_line(h: &mut Host, i: usize, a: Va, to: Lead, v: u32)
-    ensures { λ _. ⌜ view (now (h .exit)) ≡ putWhole (view (now (h .entry))) i (a .0) (heldOf to) v ⌝ }
+fn empty_line() -> Line
+    ensures { λ r. ⌜ r ≡ emptyLine ⌝ }
 {
-    host::set_line_address(h, i, a);
-    host::set_line_page(h, i, to);
-    host::set_line_value(h, i, v);
+    Line {
+        address: Va(0),
+        page: host::held_for(Lead::Nowhere),
+        value: 0,
+    }
+}
+
+fn line_to(a: Va, p: Ma, v: u32) -> Line
+    requires { ⌜ p .0 < pages ⌝ }
+    ensures { λ r. ⌜ r ≡ lineTo (a .0) (p .0) v ⌝ }
+{
+    Line {
+        address: a,
+        page: host::held_for(Lead::To(p)),
+        value: v,
+    }
+}
+
+// Line i is l: one way of its set replaced. Nothing past the last.
+fn replace_line(h: &mut Host, i: usize, l: Line)
+    ensures { λ _. ⌜ view (now (h .exit)) ≡ putWhole (view (now (h .entry))) i l ⌝ }
+{
+    let k = i / WAYS;
+    let s = load(h, k);
+    let t = replaced(s, i % WAYS, l);
+    put_back(h, k, t);
 }
 
 // The line's value goes to memory, if the line leads to a page.
-fn save(h: &mut Host, i: usize)
-    ensures { λ _. ⌜ view (now (h .exit)) ≡ saved (view (now (h .entry))) i ⌝ }
+fn save(h: &mut Host, l: Line)
+    ensures { λ _. ⌜ view (now (h .exit)) ≡ putMemory (view (now (h .entry))) (lead (l .page .0)) (l .value) ⌝ }
 {
     host::whole(h);
-    let to = host::line_page(h, i);
-    let v = host::line_value(h, i);
+    let to = host::lead_in(l.page);
     match to {
-        Lead::To(p) => host::set_memory(h, p, v),
+        Lead::To(p) => host::set_memory(h, p, l.value),
         Lead::Nowhere => {}
     }
 }
@@ -51,8 +75,10 @@ fn save(h: &mut Host, i: usize)
 pub fn take_out(h: &mut Host, i: usize)
     ensures { λ _. ⌜ view (now (h .exit)) ≡ takeOut (view (now (h .entry))) i ⌝ }
 {
-    save(h, i);
-    put_line(h, i, Va(0), Lead::Nowhere, 0);
+    let l = line_at(h, i);
+    save(h, l);
+    let e = empty_line();
+    replace_line(h, i, e);
 }
 
 // The line (a, p) enters line i, with memory's value of the page.
@@ -60,77 +86,94 @@ pub fn fill(h: &mut Host, i: usize, a: Va, p: Ma)
     ensures { λ _. ⌜ view (now (h .exit)) ≡ pick (isPage (p .0)) (enter (view (now (h .entry))) i (a .0) (p .0)) (view (now (h .entry))) ⌝ }
 {
     if (p.0 as usize) < host::PAGES {
-        let v = host::memory(h, p);
-        put_line(h, i, a, Lead::To(p), v);
+        let value = host::memory(h, p);
+        let l = line_to(a, p, value);
+        replace_line(h, i, l);
     }
 }
 
 // ---- an access
 
-// A line of a cacheable page enters set k, which is s, and the one in its way is taken out.
-fn miss(h: &mut Host, k: usize, s: Set, a: Va, p: Ma)
-    requires { ⌜ (k < sets) × (p .0 < pages) × (s ≡ setFrom (view (now h)) k) ⌝ }
-    ensures { λ _. ⌜ view (now (h .exit)) ≡ missed (view (now (h .entry))) k (a .0) (p .0) ⌝ }
+// What a line, or memory, holds after an access that found v there.
+fn kept(x: Purpose, v: u32) -> u32
+    ensures { λ r. ⌜ r ≡ after x v ⌝ }
 {
-    host::whole(h);
-    let w = place(s);
+    match x {
+        Purpose::Read => v,
+        Purpose::Write(n) => n,
+    }
+}
+
+// A damaged history may name a way past the last of set k, which is s: the line that the model then fills is no line of this set.
+fn miss_past(h: &mut Host, k: usize, s: Set, w: usize, a: Va, p: Ma)
+    requires { ⌜ (k < sets) × (w < byteBound) × (p .0 < pages) × (s ≡ setFrom (view (now h)) k) ⌝ }
+    ensures { λ _. ⌜ view (now (h .exit)) ≡ missed (view (now (h .entry))) k w (a .0) (p .0) ⌝ }
+{
     let i = WAYS * k + w;
     let t = entered(s, w);
-    host::set_history(h, k, t.history);
+    put_back(h, k, t);
     take_out(h, i);
     fill(h, i, a, p);
 }
 
-fn access_set(h: &mut Host, a: Va, p: Ma)
+// A line of a cacheable page enters set k, which is s, and the one in its way is taken out.
+fn miss(h: &mut Host, k: usize, s: Set, a: Va, p: Ma, x: Purpose) -> u32
+    requires { ⌜ (k ≡ setOf (a .0)) × (isCacheable (view (now h) .shape) (p .0) ≡ true) × (s ≡ setFrom (view (now h)) k) × (ways ≤ findIn s (a .0) (p .0)) ⌝ }
+    ensures { λ r. ⌜ Accesses (view (now (h .entry))) (a .0) (p .0) x r (view (now (h .exit))) ⌝ }
+{
+    host::whole(h);
+    let w = place(s);
+    if w < WAYS {
+        let old = s.ways[w];
+        save(h, old);
+        let v = host::memory(h, p);
+        let l = line_to(a, p, kept(x, v));
+        let t = entered(replaced(s, w, l), w);
+        put_back(h, k, t);
+        v
+    } else {
+        miss_past(h, k, s, w, a, p);
+        0
+    }
+}
+
+fn access_set(h: &mut Host, a: Va, p: Ma, x: Purpose) -> u32
     requires { ⌜ isCacheable (view (now h) .shape) (p .0) ≡ true ⌝ }
-    ensures { λ _. ⌜ view (now (h .exit)) ≡ accessed (view (now (h .entry))) (a .0) (p .0) ⌝ }
+    ensures { λ r. ⌜ Accesses (view (now (h .entry))) (a .0) (p .0) x r (view (now (h .exit))) ⌝ }
 {
     host::whole(h);
     let k = a.0 as usize % host::SETS;
     let s = load(h, k);
     let w = find(s, a, p);
     if w < WAYS {
-        let t = used(s, w);
-        host::set_history(h, k, t.history);
+        let old = s.ways[w];
+        let address = old.address;
+        let page = old.page;
+        let v = old.value;
+        let l = Line {
+            address,
+            page,
+            value: kept(x, v),
+        };
+        let t = used(replaced(s, w, l), w);
+        put_back(h, k, t);
+        v
     } else {
-        miss(h, k, s, a, p);
+        miss(h, k, s, a, p, x)
     }
 }
 
-// The cache's part of a read of page p at address a. A page not cacheable changes nothing, and neither does a number that is no page.
-pub fn access(h: &mut Host, a: Va, p: Ma)
-    ensures { λ _. ⌜ view (now (h .exit)) ≡ accessed (view (now (h .entry))) (a .0) (p .0) ⌝ }
+// The cache's part of a read or a write of page p at address a, and the value there before what is written. A page not cacheable changes no line.
+pub fn access(h: &mut Host, a: Va, p: Ma, x: Purpose) -> u32
+    ensures { λ r. ⌜ Accesses (view (now (h .entry))) (a .0) (p .0) x r (view (now (h .exit))) ⌝ }
 {
     host::whole(h);
     if host::cacheable(h, p) == 1 {
-        access_set(h, a, p);
-    }
-}
-
-// ---- a page's value
-
-fn store_line(h: &mut Host, a: Va, p: Ma, v: u32)
-    requires { ⌜ isCacheable (view (now h) .shape) (p .0) ≡ true ⌝ }
-    ensures { λ _. ⌜ view (now (h .exit)) ≡ store (view (now (h .entry))) (a .0) (p .0) v ⌝ }
-{
-    host::whole(h);
-    let k = a.0 as usize % host::SETS;
-    let s = load(h, k);
-    let w = find(s, a, p);
-    if w < WAYS {
-        host::set_line_value(h, WAYS * k + w, v);
-    }
-}
-
-// The line of page p at address a, or memory if the page is not cacheable, holds v.
-pub fn store(h: &mut Host, a: Va, p: Ma, v: u32)
-    ensures { λ _. ⌜ view (now (h .exit)) ≡ store (view (now (h .entry))) (a .0) (p .0) v ⌝ }
-{
-    host::whole(h);
-    if host::cacheable(h, p) == 1 {
-        store_line(h, a, p, v);
+        access_set(h, a, p, x)
     } else {
-        host::set_memory(h, p, v);
+        let v = host::memory(h, p);
+        host::set_memory(h, p, kept(x, v));
+        v
     }
 }
 
@@ -157,28 +200,26 @@ fn line_of_page(h: &Host, p: Ma) -> usize
     host::LINES
 }
 
-// The page's value: its first line's, or memory's if it has no line. 0 of a number that is no page.
-pub fn present(h: &Host, p: Ma) -> u32
-    ensures { λ r. ⌜ r ≡ pick (isPage (p .0)) (present (view (now (h .entry))) (p .0)) 0 ⌝ }
+// The page's value: its first line's, or memory's if it has no line.
+fn present(h: &Host, p: Ma) -> u32
+    requires { ⌜ p .0 < pages ⌝ }
+    ensures { λ r. ⌜ r ≡ present (view (now (h .entry))) (p .0) ⌝ }
 {
-    if (p.0 as usize) < host::PAGES {
-        let i = line_of_page(h, p);
-        if i < host::LINES {
-            host::line_value(h, i)
-        } else {
-            host::memory(h, p)
-        }
+    let i = line_of_page(h, p);
+    if i < host::LINES {
+        host::line_value(h, i)
     } else {
-        0
+        host::memory(h, p)
     }
 }
 
 fn clear_line(h: &mut Host, i: usize, p: Ma)
     requires { ⌜ p .0 < pages ⌝ }
-    ensures { λ _. ⌜ view (now (h .exit)) ≡ pick (isOf (view (now (h .entry)) .shape) (p .0) i) (putWhole (view (now (h .entry))) i 0 0 0) (view (now (h .entry))) ⌝ }
+    ensures { λ _. ⌜ view (now (h .exit)) ≡ pick (isOf (view (now (h .entry)) .shape) (p .0) i) (putWhole (view (now (h .entry))) i emptyLine) (view (now (h .entry))) ⌝ }
 {
     if is_of(h, i, p) {
-        put_line(h, i, Va(0), Lead::Nowhere, 0);
+        let e = empty_line();
+        replace_line(h, i, e);
     }
 }
 

@@ -2,6 +2,7 @@
 // A getter answers 0 past the end of its field, and a setter changes nothing there.
 mod calls; // pending calls
 mod layout; // where each field stands
+mod lines; // the cache's lines and histories, the TLB's slots
 mod names; // sizes, and numbers that stand for names
 mod start; // the fresh machine
 mod values; // numbers of more than one byte, the active guest and the mode, the map of free pages
@@ -23,15 +24,23 @@ use layout::CALL_B;
 use layout::CURRENT;
 use layout::ENTRY;
 use layout::FIELDS;
-use layout::HISTORY;
 use layout::KIND;
-use layout::LINE_ADDRESS;
-use layout::LINE_PAGE;
 use layout::MARK;
 use layout::OWNER;
 use layout::PHYSICAL;
-use layout::SLOT_ADDRESS;
-use layout::SLOT_PAGE;
+pub use lines::history;
+pub use lines::line_address;
+pub use lines::line_empty;
+pub use lines::line_held;
+pub use lines::line_page;
+pub use lines::set_history;
+pub use lines::set_line_address;
+pub use lines::set_line_held;
+pub use lines::set_slot_address;
+pub use lines::set_slot_page;
+pub use lines::slot_address;
+pub use lines::slot_empty;
+pub use lines::slot_page;
 pub use names::ADDRESSES;
 pub use names::CACHEABLE;
 pub use names::CALL_A_BOUND;
@@ -93,7 +102,7 @@ ghost use lib.Dec.{eqb};
 ghost use Rattle.laws.specs.Choice.{at};
 ghost use Rattle.model.specs.Sizes.{addresses, physicals};
 ghost use Rattle.host.specs.Cut.{begin, size};
-ghost use Rattle.host.specs.View.{sizes, view, listed, column, put, ownerField, kindField, cacheableField, entryField, physicalField, currentField, lineAddressField, linePageField, historyField, slotAddressField, slotPageField};
+ghost use Rattle.host.specs.View.{sizes, view, listed, column, put, ownerField, kindField, cacheableField, entryField, physicalField, currentField};
 ghost use Rattle.host.specs.Lead.{leadOf, heldOf, placeOf, leadsAt};
 
 pub type Host = [u8; SIZE];
@@ -103,6 +112,9 @@ pub enum Lead {
     To(Ma),
     Nowhere,
 }
+
+// What such a place holds, damaged ones too: the page plus one, 0 for none. Its number is this crate's alone.
+pub struct Held(u8);
 
 // ---- fields
 
@@ -188,6 +200,25 @@ pub fn leads_to(l: Lead, p: Ma) -> bool
         Lead::To(q) => q.0 == p.0,
         Lead::Nowhere => false,
     }
+}
+
+// To what a place leads that holds x, and what is held for a lead.
+pub fn lead_in(x: Held) -> Lead
+    ensures { λ r. ⌜ r ≡ leadOf (x .0) ⌝ }
+{
+    lead_of(x.0)
+}
+
+pub fn held_for(l: Lead) -> Held
+    ensures { λ r. ⌜ r .0 ≡ heldOf l ⌝ }
+{
+    Held(held_of(l))
+}
+
+pub fn is_empty(x: Held) -> bool
+    ensures { λ r. ⌜ r ≡ eqb (x .0) 0 ⌝ }
+{
+    x.0 == 0
 }
 
 // To what place i of field k leads, and whether it is empty.
@@ -300,80 +331,4 @@ pub fn set_current(h: &mut Host, g: Guest, a: Pa)
     ensures { λ _. ⌜ view (now (h .exit)) ≡ put currentField (view (now (h .entry))) (g .0) (a .0) ⌝ }
 {
     set(h, CURRENT, g.0 as usize, a.0)
-}
-
-// ---- the cache's lines and histories
-
-pub fn line_address(h: &Host, i: usize) -> Va
-    ensures { λ r. ⌜ r .0 ≡ at (view (now (h .entry)) .shape .cache .lineAddress) i ⌝ }
-{
-    Va(get(h, LINE_ADDRESS, i))
-}
-
-pub fn set_line_address(h: &mut Host, i: usize, a: Va)
-    ensures { λ _. ⌜ view (now (h .exit)) ≡ put lineAddressField (view (now (h .entry))) i (a .0) ⌝ }
-{
-    set(h, LINE_ADDRESS, i, a.0)
-}
-
-pub fn line_page(h: &Host, i: usize) -> Lead
-    ensures { λ r. ⌜ r ≡ leadOf (at (view (now (h .entry)) .shape .cache .linePage) i) ⌝ }
-{
-    get_lead(h, LINE_PAGE, i)
-}
-
-pub fn line_empty(h: &Host, i: usize) -> bool
-    ensures { λ r. ⌜ r ≡ eqb (at (view (now (h .entry)) .shape .cache .linePage) i) 0 ⌝ }
-{
-    get_empty(h, LINE_PAGE, i)
-}
-
-pub fn set_line_page(h: &mut Host, i: usize, l: Lead)
-    ensures { λ _. ⌜ view (now (h .exit)) ≡ put linePageField (view (now (h .entry))) i (heldOf l) ⌝ }
-{
-    set_lead(h, LINE_PAGE, i, l)
-}
-
-pub fn history(h: &Host, k: usize) -> u8
-    ensures { λ r. ⌜ r ≡ at (view (now (h .entry)) .shape .cache .history) k ⌝ }
-{
-    get(h, HISTORY, k)
-}
-
-pub fn set_history(h: &mut Host, k: usize, v: u8)
-    ensures { λ _. ⌜ view (now (h .exit)) ≡ put historyField (view (now (h .entry))) k v ⌝ }
-{
-    set(h, HISTORY, k, v)
-}
-
-// ---- the TLB
-
-pub fn slot_address(h: &Host, i: usize) -> Va
-    ensures { λ r. ⌜ r .0 ≡ at (view (now (h .entry)) .shape .tlb .slotAddress) i ⌝ }
-{
-    Va(get(h, SLOT_ADDRESS, i))
-}
-
-pub fn set_slot_address(h: &mut Host, i: usize, a: Va)
-    ensures { λ _. ⌜ view (now (h .exit)) ≡ put slotAddressField (view (now (h .entry))) i (a .0) ⌝ }
-{
-    set(h, SLOT_ADDRESS, i, a.0)
-}
-
-pub fn slot_page(h: &Host, i: usize) -> Lead
-    ensures { λ r. ⌜ r ≡ leadOf (at (view (now (h .entry)) .shape .tlb .slotPage) i) ⌝ }
-{
-    get_lead(h, SLOT_PAGE, i)
-}
-
-pub fn slot_empty(h: &Host, i: usize) -> bool
-    ensures { λ r. ⌜ r ≡ eqb (at (view (now (h .entry)) .shape .tlb .slotPage) i) 0 ⌝ }
-{
-    get_empty(h, SLOT_PAGE, i)
-}
-
-pub fn set_slot_page(h: &mut Host, i: usize, l: Lead)
-    ensures { λ _. ⌜ view (now (h .exit)) ≡ put slotPageField (view (now (h .entry))) i (heldOf l) ⌝ }
-{
-    set_lead(h, SLOT_PAGE, i, l)
 }

@@ -1,6 +1,6 @@
 -- On a valid state a page has one line at most, and what a lookup in the address's set finds is the page's present value.
 -- Assumes nothing.
-use mathlib.Core.Path.{_≡_, sym, _∙_}
+use mathlib.Core.Path.{_≡_, sym, ap, subst, _∙_}
 use mathlib.Core.Bool.{Bool, false}
 use mathlib.Core.Logic.{_≢_}
 use Prim.Native.Nat.{ℕ, suc, _<_}
@@ -9,13 +9,16 @@ use lib.Dec.{ltb, eqb}
 use borrow.Author.Tests.{eqb-true, eqb-false, eq-eqb, ne-eqb}
 use Rattle.laws.specs.Choice.{pick, at}
 use Rattle.laws.proofs.Cases.{same?, below?}
+use Rattle.laws.proofs.Lists.{at-other}
 use Rattle.laws.proofs.Search.{firstBelow-found, firstBelow-least, firstBelow-none}
 use Rattle.model.specs.Sizes.{pages, addresses, lines}
-use Rattle.model.specs.State.{Shape, State, mapped, noLine, isCacheable, lineOf, lineOfPage, present}
+use Rattle.model.specs.State.{Shape, State, lead, mapped, noLine, isCacheable, lineOf, lineOfPage, present}
+use Rattle.model.specs.Parts.{takeOut}
 use Rattle.model.specs.Rules.{Maps}
 use Rattle.model.specs.Valid.{Valid}
+use Rattle.model.proofs.RuleTests.{lead-holds}
 use Rattle.keeps.proofs.Core.{Core, core-of, maps-here}
-use Rattle.keeps.proofs.Sets.{looked?, line-is}
+use Rattle.keeps.proofs.Sets.{Fills, looked?, line-is}
 
 -- ---- the first line of a page
 
@@ -63,6 +66,19 @@ module _ {s : State} (c : Core s) where
   unfolding present
   uncacheable-memory p u =
       paged? (s .shape) p (λ l e. absurd (uncacheable-line (lineOfPage (s .shape) p) p u l e)) (λ z _. rw z)
+
+  -- the line that an access fills takes from memory the page's present value, whatever was taken out for it
+  pub filled-present : (va : ℕ) → va < addresses → mapped (s .shape) va < pages → {i : ℕ} → Fills (s .shape) va (mapped (s .shape) va) i
+      → at (takeOut s i .values .memory) (mapped (s .shape) va) ≡ present s (mapped (s .shape) va)
+  unfolding takeOut present
+  filled-present va hv hp {i} f =
+      let p = mapped (s .shape) va in
+      let none = looked? (s .shape) va p (λ k. absurd (f .missed (lineOf (s .shape) va p) k)) (λ e _. sym (lookup-line va hv hp) ∙ e) in
+      paged? (s .shape) p (λ l _. absurd (omega arith))
+      (λ e n.
+      at-other (s .values .memory) (lead (at (s .shape .cache .linePage) i)) (at (s .values .line) i) p
+      (λ q. n i (f .line) (lead-holds (at (s .shape .cache .linePage) i) (subst (λ (x : ℕ). x < pages) q hp) ∙ ap suc (sym q)))
+      ∙ rw e)
 
 -- ---- what a lookup finds
 

@@ -34,7 +34,7 @@ used-below : (x w : ℕ) → x < histories → w < ways → used x w < histories
 used-below x w h k = omega arith
 
 entered-below : (x w : ℕ) → x < histories → w < ways → entered x w < histories
-entered-below x w h k = omega arith
+entered-below x w h k = pick-both (λ (y : ℕ). y < histories) (ltb (suc w) ways) (λ e. ltb-true (suc w) ways e) (λ e. omega arith)
 
 -- a set of which only way 0 is used stays at its start
 used-start : used start 0 ≡ start

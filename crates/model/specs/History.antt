@@ -1,6 +1,8 @@
 -- A set's history: which way is the next to be taken out. Only this file knows that it is a way's number.
 -- Assumes nothing.
-use Prim.Native.Nat.{ℕ, _-_}
+use Prim.Native.Nat.{ℕ, suc}
+use lib.Dec.{ltb}
+use Rattle.laws.specs.Choice.{pick}
 use Rattle.model.specs.Sizes.{ways}
 
 abbrev pub start : ℕ
@@ -18,6 +20,6 @@ oldest h = h
 abbrev pub used : ℕ → ℕ → ℕ
 used h w = h
 
--- after a line entered way w
+-- after a line entered way w: the next way, after the last the first
 abbrev pub entered : ℕ → ℕ → ℕ
-entered h w = 1 - w
+entered h w = pick (ltb (suc w) ways) (suc w) 0

@@ -29,6 +29,7 @@ use Rattle.keeps.proofs.Allowed.{is-here, is-mapped}
 use Rattle.keeps.proofs.Accepted.{refused-not}
 use Rattle.keeps.proofs.Accepted as keeps
 use Rattle.keeps.proofs.Keeps.{lowest-free}
+use Rattle.cache.specs.Lines.{found}
 use Rattle.acts.specs.Mapped.{created}
 use Rattle.acts.proofs.Pages.{for-page}
 use Rattle.acts.proofs.Damage.{deleted-valid, created-valid}
@@ -44,6 +45,7 @@ use Rattle.steps.specs.declared.Answer.{Answer}
 use Rattle.steps.specs.declared.Answer.the-variants.{Done, Refused}
 use Rattle.steps.specs.Acting.{performed, answered, readAt, acted, judged}
 use Rattle.steps.specs.Promises.{Gives, Performs}
+use Rattle.steps.proofs.Reading.{found-valid}
 
 -- ---- taken apart
 
@@ -96,7 +98,9 @@ module _ {s : State} (v : Valid s) where
 
   read-there : {m va : ℕ} → Access (s .shape) m va → readAt s va ≡ present s (mapped (s .shape) va)
   read-there {m} {va} a =
-      pick-yes (present s (mapped (s .shape) va)) 0 (lt⇔ (mapped (s .shape) va) pages .1 (is-mapped (s .shape) (a .isPage) (a .maps)))
+      let p = mapped (s .shape) va in
+      let h = is-mapped (s .shape) (a .isPage) (a .maps) in
+      pick-yes (found (readStep s va p) va p) 0 (lt⇔ p pages .1 h) ∙ found-valid v va (omega (arith, a .unreserved .below)) h
 
   pub performed-valid : (x : Action) → InRange x → Allowed (s .shape) x → performed s x ≡ next s x
   unfolding performed next

@@ -1,4 +1,5 @@
 pub mod Pages
+pub mod Reading
 pub mod Judging
 pub mod Storing
 pub mod Running

@@ -7,7 +7,7 @@ use mathlib.Core.Option.{none, some}
 use Prim.Native.Nat.{ℕ}
 use lib.Dec.{eqb}
 use Rattle.laws.specs.Choice.{pick}
-use Rattle.model.specs.State.{State, isPage, mapped, here, present}
+use Rattle.model.specs.State.{State, isPage, mapped, here}
 use Rattle.model.specs.Records.{Action, silent, read, readHyper, write, writeHyper, new, newSm, del, switch, lswitch, hcall, retCtrl, chmod, pin, unpin, decode}
 use Rattle.model.specs.Read.{readStep}
 use Rattle.model.specs.Write.{writeStep}
@@ -19,6 +19,7 @@ use Rattle.model.specs.RetCtrl.{retCtrlStep}
 use Rattle.model.specs.Chmod.{chmodStep}
 use Rattle.model.specs.Unpin.{unpinStep}
 use Rattle.model.specs.Step.{done, refusal, Outcome, refuse}
+use Rattle.cache.specs.Lines.{found}
 use Rattle.acts.specs.Pinned.{pinned}
 use Rattle.acts.specs.Mapped.{deleted, created}
 
@@ -43,9 +44,9 @@ performed s chmod = chmodStep s
 performed s (pin pa k) = pinned s pa k
 performed s (unpin pa) = onPage (here (s .shape) pa) (unpinStep s pa) s
 
--- what is read at an address: 0 where the table in force leads nowhere
+-- what is read at an address, once the line is there: 0 where the table in force leads nowhere
 abbrev pub readAt : State → ℕ → ℕ
-readAt s va = pick (isPage (mapped (s .shape) va)) (present s (mapped (s .shape) va)) 0
+readAt s va = let p = mapped (s .shape) va in pick (isPage p) (found (readStep s va p) va p) 0
 
 unfoldable pub answered : State → Action → ℕ
 answered s silent = 0

@@ -14,7 +14,7 @@ ghost use Rattle.host.specs.View.{view};
 ghost use Rattle.host.specs.Lead.{toward};
 ghost use Rattle.acts.specs.Mapped.{created};
 ghost use Rattle.asks.specs.Actions.{actionFrom};
-ghost use Rattle.steps.specs.Acting.{onPage};
+ghost use Rattle.steps.specs.Acting.{onPage, performed};
 ghost use Rattle.steps.specs.Promises.{Performs};
 
 // Where an address leads: by the table in force. The TLB is not asked, so no old translation is followed.
@@ -29,11 +29,7 @@ fn read(h: &mut Host, a: Va) -> u32
 {
     let l = led(h, a);
     match l {
-        Lead::To(p) => {
-            let value = cache::present(h, p);
-            acts::read::read(h, a, p);
-            value
-        }
+        Lead::To(p) => acts::read::read(h, a, p),
         Lead::Nowhere => 0,
     }
 }
@@ -78,59 +74,42 @@ fn unpin(h: &mut Host, b: Pa)
     }
 }
 
+// What an action does, its value apart.
+fn change(h: &mut Host, x: Action)
+    ensures { λ _. ⌜ view (now (h .exit)) ≡ performed (view (now (h .entry))) (actionFrom x) ⌝ }
+{
+    match x {
+        Action::Silent => {}
+        Action::Read(a) => {
+            read(h, a);
+        }
+        Action::ReadHyper(a) => {
+            read(h, a);
+        }
+        Action::Write(a, v) => write(h, a, v),
+        Action::WriteHyper(a, v) => write(h, a, v),
+        Action::New(a, b) => new(h, a, b),
+        Action::NewSm(b) => new_sm(h, b),
+        Action::Del(a) => acts::del::del(h, a),
+        Action::Switch(g) => acts::switch::switch(h, g),
+        Action::Lswitch(b) => acts::lswitch::lswitch(h, b),
+        Action::Hcall(c) => acts::hcall::hcall(h, c),
+        Action::RetCtrl => acts::ret_ctrl::ret_ctrl(h),
+        Action::Chmod => acts::chmod::chmod(h),
+        Action::Pin(b, k) => acts::pin::pin(h, b, k),
+        Action::Unpin(b) => unpin(h, b),
+    }
+}
+
+// A read answers the value of its page, every other action 0.
 pub(crate) fn perform(h: &mut Host, x: Action) -> u32
     ensures { λ r. ⌜ Performs (view (now (h .entry))) (actionFrom x) r (view (now (h .exit))) ⌝ }
 {
     match x {
-        Action::Silent => 0,
         Action::Read(a) => read(h, a),
         Action::ReadHyper(a) => read(h, a),
-        Action::Write(a, v) => {
-            write(h, a, v);
-            0
-        }
-        Action::WriteHyper(a, v) => {
-            write(h, a, v);
-            0
-        }
-        Action::New(a, b) => {
-            new(h, a, b);
-            0
-        }
-        Action::NewSm(b) => {
-            new_sm(h, b);
-            0
-        }
-        Action::Del(a) => {
-            acts::del::del(h, a);
-            0
-        }
-        Action::Switch(g) => {
-            acts::switch::switch(h, g);
-            0
-        }
-        Action::Lswitch(b) => {
-            acts::lswitch::lswitch(h, b);
-            0
-        }
-        Action::Hcall(c) => {
-            acts::hcall::hcall(h, c);
-            0
-        }
-        Action::RetCtrl => {
-            acts::ret_ctrl::ret_ctrl(h);
-            0
-        }
-        Action::Chmod => {
-            acts::chmod::chmod(h);
-            0
-        }
-        Action::Pin(b, k) => {
-            acts::pin::pin(h, b, k);
-            0
-        }
-        Action::Unpin(b) => {
-            unpin(h, b);
+        _ => {
+            change(h, x);
             0
         }
     }

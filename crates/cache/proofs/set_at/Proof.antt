@@ -3,6 +3,7 @@
 use mathlib.Core.Path.{sym, ap, _∙_}
 use mathlib.Core.List.{[], _∷_}
 use native.Mathlib.Nat.{add-zero}
+use Rattle.laws.specs.Search.{listFrom}
 use Rattle.host.specs.View.{view}
 use Rattle.cache.specs.Sets.{lineFrom}
 use borrow.Author.Needs.{needs}
@@ -28,6 +29,7 @@ history-requires : tie.Need-history-requires
 history-requires c κs = search needs
 
 returns : tie.Need-returns
+unfolding listFrom
 returns c i =
     let b = c .before .before in
     let a = b .before .args in

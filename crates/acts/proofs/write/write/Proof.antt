@@ -12,18 +12,20 @@ use Rattle.acts.proofs.write.write.Tie as tie
 cast-if1 : tie.Need-cast-if1
 cast-if1 c = search needs
 
-read-requires : tie.Need-read-requires
-read-requires c κs = search needs
+access-requires : tie.Need-access-requires
+access-requires c κs = search needs
 
-store-requires : tie.Need-store-requires
-store-requires c κs = search needs
+translate-requires : tie.Need-translate-requires
+translate-requires c κs = search needs
 
 returns : tie.Need-returns
 returns c =
     let r = c .before .before in
     let t = r .before .before in
     let s = t .before .before .args in
-    writes (view (s .h .now)) (s .a .0) (s .p .0) (t .if1 .taken) (view (r .read .last .0)) (view (c .store .last .0)) (s .v) (r .read .ensures) (c .store .ensures)
+    writes (view (s .h .now)) (s .a .0) (s .p .0) (t .if1 .taken) (view (r .access .last .0)) (view (c .translate .last .0)) (c .translate .ensures) (s .v)
+    (r .access .result)
+    (r .access .ensures)
 
 returns-2 : tie.Need-returns-2
 returns-2 c =
@@ -31,4 +33,4 @@ returns-2 c =
     sym (no-page (s .p .0) (writeStep (view (s .h .now)) (s .a .0) (s .p .0) (s .v)) (view (s .h .now)) (c .if1 .left))
 
 pub write-spec : {M : Type 1} → statement M
-write-spec = tie.close (tie.spec cast-if1 read-requires store-requires returns returns-2)
+write-spec = tie.close (tie.spec cast-if1 access-requires translate-requires returns returns-2)

@@ -1,10 +1,10 @@
--- A page that is not cacheable leaves the state.
+-- A page that is not cacheable has its value in memory.
 -- Assumes nothing.
 use mathlib.Core.Path.{sym, _∙_}
 use borrow.Author.Tests.{eq-eqb, ne-eqb}
 use Rattle.host.specs.View.{view}
 use Rattle.host.proofs.Inverse.{view-sized}
-use Rattle.cache.proofs.Accesses.{access-none}
+use Rattle.cache.proofs.Accesses.{access-memory}
 use borrow.Author.Needs.{needs}
 use Rattle.cache.proofs.lines.access.Statement.{statement}
 use Rattle.cache.proofs.lines.access.Tie as tie
@@ -20,17 +20,44 @@ access-set-requires c κs =
     let i = c .before in
     eq-eqb _ 1 (sym (i .before .cacheable .ensures) ∙ i .if1 .taken)
 
+memory-requires : tie.Need-memory-requires
+memory-requires c κs = search needs
+
+kept-requires : tie.Need-kept-requires
+kept-requires c κs = search needs
+
+set-memory-requires : tie.Need-set-memory-requires
+set-memory-requires c κs = search needs
+
 returns : tie.Need-returns
 returns c = search needs
 
 returns-2 : tie.Need-returns-2
 returns-2 c =
-    let k = c .before in
+    let n = c .before in
+    let m = n .before .before in
+    let i = m .before .before in
+    let k = i .before in
     let w = k .before .before in
-    let s = w .before .before in
-    let z = view-sized (s .args .h .now) (w .whole .ensures) in
-    sym (access-none (view (s .args .h .now)) (s .args .a .0) (s .args .p .0) z (ne-eqb _ 1 (λ e. c .if1 .left (k .cacheable .ensures ∙ e))))
+    let a = w .before .before .args in
+    access-memory (view (a .h .now)) (a .a .0) (a .p .0) (view-sized (a .h .now) (w .whole .ensures)) (ne-eqb _ 1 (λ e. i .if1 .left (k .cacheable .ensures ∙ e)))
+    (a .x)
+    (m .memory .result)
+    (n .kept .result)
+    _
+    (m .memory .ensures)
+    (n .kept .ensures)
+    (c .set-memory .ensures)
 
 pub access-spec : {M : Type 1} → statement M
 access-spec =
-    tie.close (tie.spec whole-requires cacheable-requires access-set-requires returns returns-2)
+    tie.close
+    (tie.spec
+    whole-requires
+    cacheable-requires
+    access-set-requires
+    memory-requires
+    kept-requires
+    set-memory-requires
+    returns
+    returns-2)

@@ -1,9 +1,10 @@
--- A hit leaves the state, and a miss is the line that enters.
+-- A hit leaves keys and history, and a miss is the line that enters.
 -- Assumes nothing.
 use native.Mathlib.Omega.{arith}
+use mathlib.Core.Path.{refl}
 use Rattle.host.specs.View.{view}
 use Rattle.host.proofs.Inverse.{view-sized}
-use Rattle.cache.proofs.Accesses.{cacheable-page, accessed-hit, accessed-miss}
+use Rattle.cache.proofs.Accesses.{access-hits}
 use borrow.Author.Needs.{needs}
 use Rattle.cache.proofs.lines.access_set.Statement.{statement}
 use Rattle.cache.proofs.lines.access_set.Tie as tie
@@ -20,47 +21,58 @@ load-requires c κs = search needs
 find-requires : tie.Need-find-requires
 find-requires c κs = search needs
 
+mul-old : tie.Need-mul-old
+mul-old c = search needs
+
+element-copy-out-old : tie.Need-element-copy-out-old
+element-copy-out-old c = search needs
+
+kept-requires : tie.Need-kept-requires
+kept-requires c κs = search needs
+
+replaced-requires : tie.Need-replaced-requires
+replaced-requires c κs = search needs
+
 used-requires : tie.Need-used-requires
 used-requires c κs = search needs
 
-set-history-requires : tie.Need-set-history-requires
-set-history-requires c κs = search needs
+put-back-requires : tie.Need-put-back-requires
+put-back-requires c κs = search needs
 
 miss-requires : tie.Need-miss-requires
 miss-requires c κs =
-    let l = c .before .before .before in
-    let w = l .before .before .before in
-    let s = w .before .before in
-    let z = view-sized (s .args .h .now) (w .whole .ensures) in
-    (omega arith, cacheable-page (view (s .args .h .now)) (s .args .p .0) z (s .pre), l .load .ensures)
+    let i = c .before in
+    let f = i .before in
+    let l = f .before in
+    let s = l .before .before .before .before .before in
+    (refl, s .pre, l .load .ensures, omega (arith, i .if1 .left, f .find .ensures))
 
 returns : tie.Need-returns
 returns c =
-    let y = c .before .before in
-    let f = y .before .before in
-    let l = f .before in
-    let w = l .before .before .before in
-    let s = w .before .before in
-    let z = view-sized (s .args .h .now) (w .whole .ensures) in
-    accessed-hit (view (s .args .h .now)) (s .args .a .0) (s .args .p .0) z (s .pre) (l .load .result) (f .find .result) (l .load .ensures) (f .find .ensures)
-    (y .before .if1 .taken)
-    (y .used .result)
-    _
-    (y .used .ensures)
-    (c .set-history .ensures)
-
-returns-2 : tie.Need-returns-2
-returns-2 c =
-    let i = c .before .before in
+    let t = c .before .before in
+    let y = t .before in
+    let n = y .before in
+    let i = n .before .before .before .before in
     let f = i .before in
     let l = f .before in
     let w = l .before .before .before in
     let s = w .before .before in
-    let z = view-sized (s .args .h .now) (w .whole .ensures) in
-    accessed-miss (view (s .args .h .now)) (s .args .a .0) (s .args .p .0) z (s .pre) (l .load .result) (f .find .result) (l .load .ensures) (f .find .ensures)
-    (i .if1 .left)
+    access-hits (view (s .args .h .now)) (s .args .a .0) (s .args .p .0) (view-sized (s .args .h .now) (w .whole .ensures)) (s .pre) (l .load .result) (l .load .ensures)
+    (f .find .result)
+    (f .find .ensures)
+    (i .if1 .taken)
+    (s .args .x)
+    (n .kept .result)
+    (y .replaced .result)
+    (t .used .result)
     _
-    (c .miss .ensures)
+    (n .kept .ensures)
+    (y .replaced .ensures)
+    (t .used .ensures)
+    (c .put-back .ensures)
+
+returns-2 : tie.Need-returns-2
+returns-2 c = search needs
 
 pub access-set-spec : {M : Type 1} → statement M
 access-set-spec =
@@ -70,8 +82,12 @@ access-set-spec =
     cast-k
     load-requires
     find-requires
+    mul-old
+    element-copy-out-old
+    kept-requires
+    replaced-requires
     used-requires
-    set-history-requires
+    put-back-requires
     miss-requires
     returns
     returns-2)

@@ -11,11 +11,8 @@ use Rattle.cache.proofs.lines.save.Tie as tie
 whole-requires : tie.Need-whole-requires
 whole-requires c κs = search needs
 
-line-page-requires : tie.Need-line-page-requires
-line-page-requires c κs = search needs
-
-line-value-requires : tie.Need-line-value-requires
-line-value-requires c κs = search needs
+lead-in-requires : tie.Need-lead-in-requires
+lead-in-requires c κs = search needs
 
 enum-known-to : tie.Need-enum-known-to
 enum-known-to c = search needs
@@ -29,27 +26,24 @@ enum-told c = search needs
 returns : tie.Need-returns
 returns c =
     let t = c .before .before .before in
-    let v = t .before .before in
-    let l = v .before .before in
-    let a = l .before .before .before .before .args in
+    let l = t .before .before in
+    let a = l .before .before .before .args in
     c .set-memory .ensures
-    ∙ saved-to (view (a .h .now)) (a .i) (t .to .given .0 .0 .0) (v .line-value .result) (sym (l .line-page .ensures) ∙ t .to .given .1) (v .line-value .ensures)
+    ∙ saved-to (view (a .h .now)) (a .l .page .0) (t .to .given .0 .0 .0) (a .l .value) (sym (l .lead-in .ensures) ∙ t .to .given .1)
 
 returns-2 : tie.Need-returns-2
 returns-2 c =
-    let v = c .before .before in
-    let l = v .before .before in
-    let w = l .before .before in
+    let l = c .before .before in
+    let w = l .before in
     let a = w .before .before .args in
-    saved-nowhere (view (a .h .now)) (a .i) (view-sized (a .h .now) (w .whole .ensures) .memory) (sym (l .line-page .ensures) ∙ c .enum-told .given .1)
+    saved-nowhere (view (a .h .now)) (a .l .page .0) (a .l .value) (view-sized (a .h .now) (w .whole .ensures) .memory) (sym (l .lead-in .ensures) ∙ c .enum-told .given .1)
 
 pub save-spec : {M : Type 1} → statement M
 save-spec =
     tie.close
     (tie.spec
     whole-requires
-    line-page-requires
-    line-value-requires
+    lead-in-requires
     enum-known-to
     set-memory-requires
     enum-told

@@ -1,7 +1,6 @@
 -- Saved, and then stored empty.
 -- Assumes nothing.
 use mathlib.Core.Path.{ap, _∙_}
-use Rattle.model.specs.State.{State}
 use Rattle.host.specs.View.{view}
 use Rattle.cache.specs.Lines.{putWhole}
 use Rattle.cache.proofs.Whole.{taken-out}
@@ -9,17 +8,28 @@ use borrow.Author.Needs.{needs}
 use Rattle.cache.proofs.lines.take_out.Statement.{statement}
 use Rattle.cache.proofs.lines.take_out.Tie as tie
 
+line-at-requires : tie.Need-line-at-requires
+line-at-requires c κs = search needs
+
 save-requires : tie.Need-save-requires
 save-requires c κs = search needs
 
-put-line-requires : tie.Need-put-line-requires
-put-line-requires c κs = search needs
+empty-line-requires : tie.Need-empty-line-requires
+empty-line-requires c κs = search needs
+
+replace-line-requires : tie.Need-replace-line-requires
+replace-line-requires c κs = search needs
 
 returns : tie.Need-returns
 returns c =
-    let b = c .before .before in
-    let a = b .before .before .args in
-    c .put-line .ensures ∙ ap (λ (t : State). putWhole t (a .i) 0 0 0) (b .save .ensures) ∙ taken-out (view (a .h .now)) (a .i)
+    let e = c .before .before in
+    let v = e .before in
+    let l = v .before .before in
+    let a = l .before .before .args in
+    taken-out (view (a .h .now)) (a .i) (l .line-at .result) (view (v .save .last .0)) _ (l .line-at .ensures) (v .save .ensures)
+    (c .replace-line .ensures ∙ ap (putWhole (view (v .save .last .0)) (a .i)) (e .empty-line .ensures))
 
 pub take-out-spec : {M : Type 1} → statement M
-take-out-spec = tie.close (tie.spec save-requires put-line-requires returns)
+take-out-spec =
+    tie.close
+    (tie.spec line-at-requires save-requires empty-line-requires replace-line-requires returns)

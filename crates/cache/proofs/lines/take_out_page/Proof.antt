@@ -2,12 +2,12 @@
 -- Assumes nothing.
 use mathlib.Core.Path.{sym}
 use borrow.Author.Tests.{le-ltb}
+use borrow.Author.Needs.{needs}
 use Rattle.laws.proofs.Cases.{pick-not}
 use Rattle.model.specs.Sizes.{pages}
 use Rattle.model.specs.Parts.{takeOutPage}
 use Rattle.host.specs.View.{view}
 use Rattle.cache.proofs.Cleared.{taken-page}
-use borrow.Author.Needs.{needs}
 use Rattle.cache.proofs.lines.take_out_page.Statement.{statement}
 use Rattle.cache.proofs.lines.take_out_page.Tie as tie
 
