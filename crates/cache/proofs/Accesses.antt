@@ -28,7 +28,7 @@ use Rattle.cache.specs.declared.Line.{Line}
 use Rattle.cache.specs.declared.Set.{Set}
 use Rattle.cache.specs.declared.Purpose.{Purpose}
 use Rattle.cache.specs.declared.Purpose.the-variants.{Read, Write}
-use Rattle.cache.specs.Sets.{lineWith, lineFrom, setFrom, lineTo, wayIn, findIn, placeIn, replacedIn, usedIn, enteredIn}
+use Rattle.cache.specs.Sets.{lineWith, lineFrom, setFrom, emptyLine, lineTo, wayIn, findIn, placeIn, replacedIn, usedIn, enteredIn}
 use Rattle.cache.specs.Lines.{putWhole, putBack, accessed, missed, found, after, accessedFor, Accesses}
 use Rattle.cache.proofs.Sets.{way-is, find-is-hit, place-is-way}
 use Rattle.cache.proofs.Whole.{history-kept, put-back-history, put-back-replaced}
@@ -216,24 +216,29 @@ module _ (s : State) (va p : ℕ) (z : Sized s) (c : isCacheable (s .shape) p �
   is-line : (w : ℕ) → w < ways → wayIn x w ≡ lineFrom s (lineAt (setOf va) w)
   is-line w h = ap (λ (t : Set). wayIn t w) ex ∙ way-is s (setOf va) w h
 
-  pub access-hits : (w : ℕ) → w ≡ findIn x va p → w < ways → (q : Purpose) (n : ℕ) (y t : Set) (u : State) → n ≡ after q (wayIn x w .value)
-      → y ≡ replacedIn x w (lineWith (wayIn x w .address .0) (wayIn x w .page .0) n) → t ≡ usedIn y w → u ≡ putBack s (setOf va) t
-      → Accesses s va p q (wayIn x w .value) u
+  is-read : (w : ℕ) → w < ways → (o : Line) → o ≡ pick (ltb w ways) (wayIn x w) emptyLine → o ≡ lineFrom s (lineAt (setOf va) w)
+  is-read w h o e = e ∙ pick-yes (wayIn x w) emptyLine (lt-ltb w ways h) ∙ is-line w h
+
+  pub access-hits : (w : ℕ) → w ≡ findIn x va p → w < ways → (q : Purpose) (o : Line) (n : ℕ) (y t : Set) (u : State) → o ≡ pick (ltb w ways) (wayIn x w) emptyLine
+      → n ≡ after q (o .value)
+      → y ≡ replacedIn x w (lineWith (o .address .0) (o .page .0) n) → t ≡ usedIn y w → u ≡ putBack s (setOf va) t
+      → Accesses s va p q (o .value) u
   unfolding putWhole
-  access-hits w ew h q n y t u en ey et eu =
+  access-hits w ew h q o n y t u eo en ey et eu =
       let k = setOf va in
       let i = lineAt k w in
       let e : hitWay (s .shape) va p ≡ w = sym (ew ∙ is-found) in
-      let v = ap (λ (l : Line). l .value) (is-line w h) in
+      let r = is-read w h o eo in
+      let v = ap (λ (l : Line). l .value) r in
       let m : Line = lineWith (at (s .shape .cache .lineAddress) i) (at (s .shape .cache .linePage) i) n in
       let b : t ≡ usedIn (replacedIn (setFrom s k) w m) w =
-      et ∙ ap (λ (a : Set). usedIn a w) (ey ∙ (λ j. replacedIn (ex j) w (lineWith (is-line w h j .address .0) (is-line w h j .page .0) n))) in
-      accesses s va p z q (wayIn x w .value) s u (access-hit s va p z c (lt-ltb (hitWay (s .shape) va p) ways (omega arith)))
+      et ∙ ap (λ (a : Set). usedIn a w) (ey ∙ (λ j. replacedIn (ex j) w (lineWith (r j .address .0) (r j .page .0) n))) in
+      accesses s va p z q (o .value) s u (access-hit s va p z c (lt-ltb (hitWay (s .shape) va p) ways (omega arith)))
       (v ∙ found-line s va p c w e h)
       (eu ∙ ap (putBack s k) b ∙ put-back-replaced s k w (at (s .shape .cache .history) k) m h ∙ history-kept (putWhole s i m) k
       ∙ value-stored s i n
       ∙ ap (putLine s i) en
-      ∙ stored-line s va p c (after q (wayIn x w .value)) w e h (z .memory))
+      ∙ stored-line s va p c (after q (o .value)) w e h (z .memory))
 
   module _ (m : ways ≤ findIn x va p) (w : ℕ) (ew : w ≡ placeIn x) where
     misses : accessed s va p ≡ missed s (setOf va) w va p
@@ -310,8 +315,9 @@ module _ (s : State) (va p : ℕ) (z : Sized s) (c : isCacheable (s .shape) p �
           values = record { memory = M; line = sym l j };
         }
 
-    pub access-misses : w < ways → (q : Purpose) (v n : ℕ) (r : State) (l : Line) (y t : Set) (u : State)
-        → r ≡ putMemory s (lead (wayIn x w .page .0)) (wayIn x w .value)
+    pub access-misses : w < ways → (q : Purpose) (v n : ℕ) (o : Line) (r : State) (l : Line) (y t : Set) (u : State)
+        → o ≡ pick (ltb w ways) (wayIn x w) emptyLine
+        → r ≡ putMemory s (lead (o .page .0)) (o .value)
         → v ≡ at (r .values .memory) p
         → n ≡ after q v
         → l ≡ lineTo va p n
@@ -320,12 +326,12 @@ module _ (s : State) (va p : ℕ) (z : Sized s) (c : isCacheable (s .shape) p �
         → u ≡ putBack r (setOf va) t
         → Accesses s va p q v u
     unfolding putMemory missed takeOut enter
-    access-misses h q v n r l y t u er ev en el ey et eu =
+    access-misses h q v n o r l y t u eo er ev en el ey et eu =
         let k = setOf va in
         let i = lineAt k w in
         let b = missed s k w va p in
         let d : State = putMemory s (lead (at (s .shape .cache .linePage) i)) (at (s .values .line) i) in
-        let er′ : r ≡ d = er ∙ ap (λ (a : Line). putMemory s (lead (a .page .0)) (a .value)) (is-line w h) in
+        let er′ : r ≡ d = er ∙ ap (λ (a : Line). putMemory s (lead (a .page .0)) (a .value)) (is-read w h o eo) in
         let to : Line = lineTo va p (after q v) in
         let et′ : t ≡ enteredIn (replacedIn (setFrom s k) w to) w =
         et ∙ ap (λ (a : Set). enteredIn a w) (ey ∙ (λ j. replacedIn (ex j) w ((el ∙ ap (lineTo va p) en) j))) in

@@ -15,9 +15,8 @@ use Rattle.laws.proofs.Cases.{same?, below?, pick-yes, pick-not}
 use Rattle.laws.proofs.Lists.{at-other, length-listOf}
 use Rattle.model.specs.Sizes.{pages, sets, ways, lines}
 use Rattle.model.specs.State.{State, lead, nowhere, isPage, lineAt}
-use Rattle.model.specs.Parts.{shaped, withCache, setHistory, takeOut, enter}
+use Rattle.model.specs.Parts.{shaped, withCache, takeOut, enter}
 use Rattle.model.specs.Valid.{Sized}
-use Rattle.host.specs.declared.Lead.{Lead}
 use Rattle.host.specs.declared.Lead.the-variants.{To, Nowhere}
 use Rattle.host.specs.Lead.{ma, leadOf, placeOf}
 use Rattle.host.specs.View.{put, putMemory, putLine, lineAddressField, linePageField, historyField}

@@ -3,6 +3,7 @@ mod lines;
 
 use host::Held;
 use host::Host;
+use host::Lead;
 use host::Ma;
 use host::Va;
 pub use lines::access;
@@ -11,9 +12,11 @@ pub use lines::take_out;
 pub use lines::take_out_page;
 ghost use mathlib.Core.Path.{_≡_};
 ghost use Prim.Native.Nat.{_≤_, _<_};
-ghost use Rattle.model.specs.Sizes.{sets};
+ghost use lib.Dec.{ltb};
+ghost use Rattle.laws.specs.Choice.{pick};
+ghost use Rattle.model.specs.Sizes.{sets, ways};
 ghost use Rattle.host.specs.View.{view};
-ghost use Rattle.cache.specs.Sets.{lineFrom, setFrom, hasKeyIn, findIn, emptyWay, placeIn, replacedIn, usedIn, enteredIn};
+ghost use Rattle.cache.specs.Sets.{lineFrom, setFrom, emptyLine, wayIn, hasKeyIn, findIn, emptyWay, placeIn, replacedIn, usedIn, enteredIn};
 ghost use Rattle.cache.specs.Lines.{putWhole, putBack};
 
 pub const WAYS: usize = host::WAYS;
@@ -81,13 +84,38 @@ pub fn place(s: Set) -> usize
     if w < WAYS { w } else { s.history as usize }
 }
 
+// The empty line: every number 0.
+fn empty_line() -> Line
+    ensures { λ r. ⌜ r ≡ emptyLine ⌝ }
+{
+    Line {
+        address: Va(0),
+        page: host::held_for(Lead::Nowhere),
+        value: 0,
+    }
+}
+
+// Way w, the empty line past the last. A loop, as in `replaced`, so that the compiler may keep the set in registers.
+fn way(s: Set, w: usize) -> Line
+    ensures { λ r. ⌜ r ≡ pick (ltb w ways) (wayIn s w) emptyLine ⌝ }
+{
+    for j in 0..WAYS {
+        if j == w {
+            return s.ways[j];
+        }
+    }
+    empty_line()
+}
+
 // One way replaced; nothing past the last.
 pub fn replaced(s: Set, w: usize, l: Line) -> Set
     ensures { λ r. ⌜ r ≡ replacedIn s w l ⌝ }
 {
     let mut t = s;
-    if w < WAYS {
-        t.ways[w] = l;
+    for j in 0..WAYS {
+        if j == w {
+            t.ways[j] = l;
+        }
     }
     t
 }

@@ -3,6 +3,7 @@ use super::Line;
 use super::Purpose;
 use super::Set;
 use super::WAYS;
+use super::empty_line;
 use super::entered;
 use super::find;
 use super::line_at;
@@ -11,6 +12,7 @@ use super::place;
 use super::put_back;
 use super::replaced;
 use super::used;
+use super::way;
 use host::Host;
 use host::Lead;
 use host::Ma;
@@ -27,16 +29,6 @@ ghost use Rattle.cache.specs.Sets.{setFrom, findIn, emptyLine, lineTo};
 ghost use Rattle.cache.specs.Lines.{putWhole, after, missed, Accesses, isOf, clearedBelow};
 
 // ---- one line
-
-fn empty_line() -> Line
-    ensures { λ r. ⌜ r ≡ emptyLine ⌝ }
-{
-    Line {
-        address: Va(0),
-        page: host::held_for(Lead::Nowhere),
-        value: 0,
-    }
-}
 
 fn line_to(a: Va, p: Ma, v: u32) -> Line
     requires { ⌜ p .0 < pages ⌝ }
@@ -124,7 +116,7 @@ fn miss(h: &mut Host, k: usize, s: Set, a: Va, p: Ma, x: Purpose) -> u32
     host::whole(h);
     let w = place(s);
     if w < WAYS {
-        let old = s.ways[w];
+        let old = way(s, w);
         save(h, old);
         let v = host::memory(h, p);
         let l = line_to(a, p, kept(x, v));
@@ -146,7 +138,7 @@ fn access_set(h: &mut Host, a: Va, p: Ma, x: Purpose) -> u32
     let s = load(h, k);
     let w = find(s, a, p);
     if w < WAYS {
-        let old = s.ways[w];
+        let old = way(s, w);
         let address = old.address;
         let page = old.page;
         let v = old.value;

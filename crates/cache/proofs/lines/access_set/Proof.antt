@@ -21,11 +21,8 @@ load-requires c κs = search needs
 find-requires : tie.Need-find-requires
 find-requires c κs = search needs
 
-mul-old : tie.Need-mul-old
-mul-old c = search needs
-
-element-copy-out-old : tie.Need-element-copy-out-old
-element-copy-out-old c = search needs
+way-requires : tie.Need-way-requires
+way-requires c κs = search needs
 
 kept-requires : tie.Need-kept-requires
 kept-requires c κs = search needs
@@ -52,7 +49,8 @@ returns c =
     let t = c .before .before in
     let y = t .before in
     let n = y .before in
-    let i = n .before .before .before .before in
+    let o = n .before .before .before in
+    let i = o .before in
     let f = i .before in
     let l = f .before in
     let w = l .before .before .before in
@@ -62,10 +60,12 @@ returns c =
     (f .find .ensures)
     (i .if1 .taken)
     (s .args .x)
+    (o .way .result)
     (n .kept .result)
     (y .replaced .result)
     (t .used .result)
     _
+    (o .way .ensures)
     (n .kept .ensures)
     (y .replaced .ensures)
     (t .used .ensures)
@@ -82,8 +82,7 @@ access-set-spec =
     cast-k
     load-requires
     find-requires
-    mul-old
-    element-copy-out-old
+    way-requires
     kept-requires
     replaced-requires
     used-requires

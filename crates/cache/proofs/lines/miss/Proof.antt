@@ -20,11 +20,8 @@ whole-requires c κs = search needs
 place-requires : tie.Need-place-requires
 place-requires c κs = search needs
 
-mul-old : tie.Need-mul-old
-mul-old c = search needs
-
-element-copy-out-old : tie.Need-element-copy-out-old
-element-copy-out-old c = search needs
+way-requires : tie.Need-way-requires
+way-requires c κs = search needs
 
 save-requires : tie.Need-save-requires
 save-requires c κs = search needs
@@ -71,12 +68,13 @@ returns c =
     let n = l .before in
     let v = n .before in
     let r = v .before .before in
-    let i = r .before .before .before in
+    let o = r .before .before in
+    let i = o .before in
     let q = i .before in
     let w = q .before in
     let s = w .before .before in
     let b = view (s .args .h .now) in
-    access-misses b (s .args .a .0) (s .args .p .0) (view-sized (s .args .h .now) (w .whole .ensures)) (s .pre .1) (s .args .t3)
+    access-misses b (s .args .a .0) (s .args .p .0) (view-sized (s .args .h .now) (w .whole .ensures)) (s .pre .1) (s .args .s)
     (s .pre .2 ∙ ap (setFrom b) (s .pre .0))
     (s .pre .3)
     (q .place .result)
@@ -85,11 +83,13 @@ returns c =
     (s .args .x)
     (v .memory .result)
     (n .kept .result)
+    (o .way .result)
     (view (r .save .last .0))
     (l .line-to .result)
     (y .replaced .result)
     (t .entered .result)
     _
+    (o .way .ensures)
     (r .save .ensures)
     (v .memory .ensures)
     (n .kept .ensures)
@@ -105,7 +105,7 @@ returns-2 c =
     let w = q .before in
     let s = w .before .before in
     let b = view (s .args .h .now) in
-    access-past b (s .args .a .0) (s .args .p .0) (view-sized (s .args .h .now) (w .whole .ensures)) (s .pre .1) (s .args .t3)
+    access-past b (s .args .a .0) (s .args .p .0) (view-sized (s .args .h .now) (w .whole .ensures)) (s .pre .1) (s .args .s)
     (s .pre .2 ∙ ap (setFrom b) (s .pre .0))
     (s .pre .3)
     (q .place .result)
@@ -121,8 +121,7 @@ miss-spec =
     (tie.spec
     whole-requires
     place-requires
-    mul-old
-    element-copy-out-old
+    way-requires
     save-requires
     memory-requires
     kept-requires

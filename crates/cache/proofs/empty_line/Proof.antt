@@ -2,8 +2,8 @@
 -- Assumes nothing.
 use Rattle.cache.specs.Sets.{lineWith}
 use borrow.Author.Needs.{needs}
-use Rattle.cache.proofs.lines.empty_line.Statement.{statement}
-use Rattle.cache.proofs.lines.empty_line.Tie as tie
+use Rattle.cache.proofs.empty_line.Statement.{statement}
+use Rattle.cache.proofs.empty_line.Tie as tie
 
 held-for-requires : tie.Need-held-for-requires
 held-for-requires c κs = search needs
