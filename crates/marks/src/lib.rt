@@ -48,11 +48,17 @@ pub fn without_mark(m: u64, p: Ma) -> u64
     if is_marked(m, p) { m - one_bit(p.0) } else { m }
 }
 
+fn lowest_digit(m: u64) -> u32
+    ensures { λ r. ⌜ r ≡ lowestFree m ⌝ }
+{
+    u64::trailing_zeros(m)
+}
+
 // The lowest page that is marked, or the number past the last.
 pub fn lowest(m: u64) -> Ma
     ensures { λ r. ⌜ r .0 ≡ lowestFree m ⌝ }
 {
-    Ma(u64::trailing_zeros(m) as u8)
+    Ma(lowest_digit(m) as u8)
 }
 
 pub fn count(m: u64) -> u32
