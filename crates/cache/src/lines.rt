@@ -160,7 +160,7 @@ pub fn access(h: &mut Host, a: Va, p: Ma, x: Purpose) -> u32
     ensures { λ r. ⌜ Accesses (view (now (h .entry))) (a .0) (p .0) x r (view (now (h .exit))) ⌝ }
 {
     host::whole(h);
-    if host::cacheable(h, p) == 1 {
+    if host::cacheable(h, p) == host::CACHEABLE {
         access_set(h, a, p, x)
     } else {
         let v = host::memory(h, p);
