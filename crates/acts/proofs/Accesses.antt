@@ -15,9 +15,9 @@ use Rattle.model.specs.Write.{store, writeStep}
 use Rattle.model.specs.NewSm.{newSmStep}
 use Rattle.model.specs.Valid.{Sized}
 use Rattle.numbers.specs.declared.Ma.{Ma}
-use Rattle.host.specs.declared.Lead.{Lead}
-use Rattle.host.specs.declared.Lead.the-variants.{To, Nowhere}
-use Rattle.host.specs.Lead.{toward}
+use Rattle.numbers.specs.declared.Lead.{Lead}
+use Rattle.numbers.specs.declared.Lead.the-variants.{To, Nowhere}
+use Rattle.numbers.specs.Lead.{toward}
 use Rattle.cache.specs.declared.Purpose.the-variants.{Read, Write}
 use Rattle.cache.specs.Lines.{found, accessedFor, Accesses}
 use Rattle.cache.proofs.Accesses.{read-is-access, found-read}

@@ -13,9 +13,9 @@ use Rattle.model.specs.State.{Shape, State, isPage, mapped, hitWay, noLine, lin
 use Rattle.model.specs.Parts.{shaped, loseMark, takeOutPage}
 use Rattle.model.specs.New.{oldLine, isShared}
 use Rattle.numbers.specs.declared.Ma.{Ma}
-use Rattle.host.specs.declared.Lead.{Lead}
-use Rattle.host.specs.declared.Lead.the-variants.{To, Nowhere}
-use Rattle.host.specs.Lead.{toward}
+use Rattle.numbers.specs.declared.Lead.{Lead}
+use Rattle.numbers.specs.declared.Lead.the-variants.{To, Nowhere}
+use Rattle.numbers.specs.Lead.{toward}
 use Rattle.cache.specs.declared.Set.{Set}
 use Rattle.cache.specs.Sets.{setFrom, findIn}
 use Rattle.cache.proofs.Sets.{find-is-hit}

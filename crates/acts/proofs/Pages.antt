@@ -9,10 +9,10 @@ use Rattle.laws.proofs.Tests.{lt⇔, not-so}
 use Rattle.model.specs.Sizes.{pages}
 use Rattle.model.specs.State.{State, isPage}
 use Rattle.numbers.specs.declared.Ma.{Ma}
-use Rattle.host.specs.declared.Lead.{Lead}
-use Rattle.host.specs.declared.Lead.the-variants.{To, Nowhere}
-use Rattle.host.specs.Lead.{ma, toward}
-use Rattle.host.proofs.Leads.{toward-page, toward-none}
+use Rattle.numbers.specs.declared.Lead.{Lead}
+use Rattle.numbers.specs.declared.Lead.the-variants.{To, Nowhere}
+use Rattle.numbers.specs.Lead.{ma, toward}
+use Rattle.numbers.proofs.Leads.{toward-page, toward-none}
 
 module _ (n : ℕ) (l : Lead) (e : l ≡ toward n) where
   pub led : (p : Ma) → l ≡ To p → (n < pages) × (p .0 ≡ n)

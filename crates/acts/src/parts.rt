@@ -12,8 +12,8 @@ ghost use Rattle.model.specs.Sizes.{slots, slotOf};
 ghost use Rattle.model.specs.State.{isPage};
 ghost use Rattle.model.specs.Parts.{shaped, setEntry, loseMark, setCall, clearCall, setSlot, translate, forget, emptied};
 ghost use Rattle.host.specs.View.{view};
-ghost use Rattle.host.specs.Lead.{heldOf};
-ghost use Rattle.host.specs.Calls.{bytesOf};
+ghost use Rattle.numbers.specs.Lead.{heldOf};
+ghost use Rattle.numbers.specs.Calls.{bytesOf};
 ghost use Rattle.acts.specs.Pinned.{renewed};
 
 // ---- pages

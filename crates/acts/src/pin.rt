@@ -15,7 +15,7 @@ ghost use Prim.Native.Nat.{suc, _<_};
 ghost use Rattle.model.specs.Sizes.{guests, pages};
 ghost use Rattle.model.specs.Pin.{pinStep};
 ghost use Rattle.host.specs.View.{view};
-ghost use Rattle.host.specs.Calls.{pinNumber};
+ghost use Rattle.numbers.specs.Calls.{pinNumber};
 ghost use Rattle.acts.specs.Pinned.{pinned};
 
 // The kind of the page that a pin makes.

@@ -11,7 +11,7 @@ ghost use Rattle.model.specs.Sizes.{pages};
 ghost use Rattle.model.specs.State.{table, lineOf};
 ghost use Rattle.model.specs.Parts.{takeOut};
 ghost use Rattle.host.specs.View.{view};
-ghost use Rattle.host.specs.Lead.{heldOf};
+ghost use Rattle.numbers.specs.Lead.{heldOf};
 ghost use Rattle.acts.specs.Mapped.{formerLine, remapped};
 
 // Past the last page if there is none: what is stored there is lost.

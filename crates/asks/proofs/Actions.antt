@@ -2,8 +2,8 @@
 -- Assumes nothing.
 use mathlib.Core.Path.{_≡_, refl, ap}
 use Rattle.model.specs.Records.{Action, silent, read, readHyper, write, writeHyper, new, newSm, del, switch, lswitch, hcall, retCtrl, chmod, pin, unpin}
-use Rattle.host.specs.declared.calls.CallBytes.{CallBytes}
-use Rattle.host.proofs.CallNumbers.{number-kind, bytes-call}
+use Rattle.numbers.specs.declared.calls.CallBytes.{CallBytes}
+use Rattle.numbers.proofs.CallNumbers.{number-kind, bytes-call}
 use Rattle.records.specs.Actions.{actionTo}
 use Rattle.records.proofs.Typed.{KindIn}
 use Rattle.asks.specs.Actions.{actionFrom}

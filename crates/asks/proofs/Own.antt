@@ -13,10 +13,10 @@ use Rattle.model.specs.Names.{kindData, kindTable}
 use Rattle.model.specs.State.{Shape, active, isPage, kindOf, isCacheable, mapped, isMapped}
 use Rattle.model.specs.Checks.{Check, first, hasEntries}
 use Rattle.numbers.specs.declared.Ma.{Ma}
-use Rattle.host.specs.declared.Lead.{Lead}
-use Rattle.host.specs.declared.Lead.the-variants.{To, Nowhere}
-use Rattle.host.specs.Lead.{toward, placeOf}
-use Rattle.host.proofs.Leads.{toward-page, toward-none}
+use Rattle.numbers.specs.declared.Lead.{Lead}
+use Rattle.numbers.specs.declared.Lead.the-variants.{To, Nowhere}
+use Rattle.numbers.specs.Lead.{toward, placeOf}
+use Rattle.numbers.proofs.Leads.{toward-page, toward-none}
 use Rattle.asks.specs.Leads.{leads}
 use Rattle.asks.specs.Maps.{onlyAt, butAt}
 use Rattle.asks.specs.Refusals.{newPage, newSmPage, lswitchPage, unpinPage}

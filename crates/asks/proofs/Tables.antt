@@ -13,10 +13,10 @@ use Rattle.model.specs.Sizes.{physicals, pages}
 use Rattle.model.specs.Names.{kindTable}
 use Rattle.model.specs.State.{Shape, lead, nowhere, active, tableAt, table}
 use Rattle.numbers.specs.declared.Ma.{Ma}
-use Rattle.host.specs.declared.Lead.{Lead}
-use Rattle.host.specs.declared.Lead.the-variants.{To, Nowhere}
-use Rattle.host.specs.Lead.{toward, leadOf}
-use Rattle.host.proofs.Leads.{toward-page, toward-none, lead-le}
+use Rattle.numbers.specs.declared.Lead.{Lead}
+use Rattle.numbers.specs.declared.Lead.the-variants.{To, Nowhere}
+use Rattle.numbers.specs.Lead.{toward, leadOf}
+use Rattle.numbers.proofs.Leads.{toward-page, toward-none, lead-le}
 use Rattle.asks.specs.Leads.{onlyTable}
 
 -- the table among a page and nowhere

@@ -9,9 +9,9 @@ use Rattle.records.specs.declared.Action.the-variants.{Silent, Read, ReadHyper,
 use Rattle.numbers.specs.declared.Va.{Va}
 use Rattle.numbers.specs.declared.Pa.{Pa}
 use Rattle.numbers.specs.declared.Guest.{Guest}
-use Rattle.host.specs.declared.calls.PinKind.{PinKind}
-use Rattle.host.specs.declared.calls.PinKind.the-variants.{Data}
-use Rattle.host.specs.Calls.{va, pa, bytesOf, pinNumber}
+use Rattle.numbers.specs.declared.calls.PinKind.{PinKind}
+use Rattle.numbers.specs.declared.calls.PinKind.the-variants.{Data}
+use Rattle.numbers.specs.Calls.{va, pa, bytesOf, pinNumber}
 use Rattle.records.specs.Actions.{guest}
 use Rattle.asks.specs.declared.Named.{Named}
 

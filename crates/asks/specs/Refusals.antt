@@ -12,9 +12,9 @@ use Rattle.model.specs.State.{Shape, active, isPage, kindOf, isCacheable, mappe
 use Rattle.model.specs.Records.{nothing, activeIdle, namedIdle, rowOf}
 use Rattle.model.specs.Checks.{Asked, Check, first, hasCall, wrongMode, hasEntries}
 use Rattle.records.specs.Table.{needOf}
-use Rattle.host.specs.declared.calls.Call.{Call}
-use Rattle.host.specs.declared.calls.Call.the-variants.{None, New, Del, Lswitch, Pin, Unpin}
-use Rattle.host.specs.Calls.{callBytes, bytesOf, sameBytes}
+use Rattle.numbers.specs.declared.calls.Call.{Call}
+use Rattle.numbers.specs.declared.calls.Call.the-variants.{None, New, Del, Lswitch, Pin, Unpin}
+use Rattle.numbers.specs.Calls.{callBytes, bytesOf, sameBytes}
 use Rattle.asks.specs.declared.Named.{Named}
 use Rattle.asks.specs.Maps.{mapsPageOf, onlyAt, butAt}
 

@@ -17,7 +17,7 @@ ghost use Rattle.model.specs.Sizes.{addresses, reserved};
 ghost use Rattle.model.specs.State.{table, mapped, here};
 ghost use Rattle.model.specs.Checks.{hasEntries};
 ghost use Rattle.host.specs.View.{view};
-ghost use Rattle.host.specs.Lead.{toward};
+ghost use Rattle.numbers.specs.Lead.{toward};
 ghost use Rattle.asks.specs.Leads.{onlyTable};
 ghost use Rattle.asks.specs.Maps.{mapsPageOf, entryIs, entryMaps, rowMaps, tableMaps, entryThere, onlyAt, butAt};
 

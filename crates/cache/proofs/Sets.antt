@@ -15,7 +15,7 @@ use Rattle.model.specs.State.{State, lineAt, hasKey, hitWay}
 use Rattle.model.specs.History.{oldest}
 use Rattle.model.specs.Parts.{wayFor}
 use Rattle.model.specs.Valid.{Sized}
-use Rattle.host.proofs.Leads.{leads-at}
+use Rattle.numbers.proofs.Leads.{leads-at}
 use Rattle.cache.specs.declared.Line.{Line}
 use Rattle.cache.specs.Sets.{lineFrom, setFrom, emptyLine, wayIn, hasKeyIn, findIn, isEmptyIn, emptyWay, placeIn}
 

@@ -17,10 +17,10 @@ use Rattle.model.specs.Sizes.{pages, sets, ways, lines}
 use Rattle.model.specs.State.{State, lead, nowhere, isPage, lineAt}
 use Rattle.model.specs.Parts.{shaped, withCache, takeOut, enter}
 use Rattle.model.specs.Valid.{Sized}
-use Rattle.host.specs.declared.Lead.the-variants.{To, Nowhere}
-use Rattle.host.specs.Lead.{ma, leadOf, placeOf}
+use Rattle.numbers.specs.declared.Lead.the-variants.{To, Nowhere}
+use Rattle.numbers.specs.Lead.{ma, leadOf, placeOf}
 use Rattle.host.specs.View.{put, putMemory, putLine, lineAddressField, linePageField, historyField}
-use Rattle.host.proofs.Leads.{place-lead}
+use Rattle.numbers.proofs.Leads.{place-lead}
 use Rattle.cache.specs.declared.Line.{Line}
 use Rattle.cache.specs.declared.Set.{Set}
 use Rattle.cache.specs.Sets.{lineWith, lineFrom, setFrom, emptyLine, lineTo, wayIn, replacedIn}

@@ -9,7 +9,7 @@ use Rattle.laws.specs.Search.{firstBelow, listOf}
 use Rattle.model.specs.Sizes.{ways}
 use Rattle.model.specs.State.{State, lineAt}
 use Rattle.model.specs.History.{oldest, used, entered}
-use Rattle.host.specs.Lead.{leadOf, leadsAt}
+use Rattle.numbers.specs.Lead.{leadOf, leadsAt}
 use Rattle.cache.specs.declared.Line.{Line}
 use Rattle.cache.specs.declared.Set.{Set}
 

@@ -2,9 +2,6 @@ pub mod Cut
 pub mod Words
 pub mod View
 pub mod Fields
-pub mod Leads
-pub mod Others
-pub mod CallNumbers
 pub mod Numbers
 pub mod Inverse
 pub mod FreshBytes

@@ -7,16 +7,9 @@ mod names; // sizes, and numbers that stand for names
 mod start; // the fresh machine
 mod values; // numbers of more than one byte, the active guest and the mode, the map of free pages
 
-pub use calls::Call;
-pub use calls::CallBytes;
-pub use calls::PinKind;
-pub use calls::bytes_of;
-pub use calls::call_of;
 pub use calls::idle;
 pub use calls::is_pending;
 pub use calls::pending;
-pub use calls::pin_kind_of;
-pub use calls::pin_number;
 pub use calls::set_pending;
 use layout::CALL;
 use layout::CALL_A;
@@ -45,13 +38,6 @@ pub use names::ADDRESSES;
 pub use names::CACHEABLE;
 pub use names::CALL_A_BOUND;
 pub use names::CALL_B_BOUND;
-pub use names::CALL_DEL;
-pub use names::CALL_LSWITCH;
-pub use names::CALL_NEW;
-pub use names::CALL_NONE;
-pub use names::CALL_PIN;
-pub use names::CALL_UNPIN;
-pub use names::CALLS;
 pub use names::FIRST_FREE_PAGE;
 pub use names::FIRST_HOST_PAGE;
 pub use names::FIRST_RESERVED;
@@ -76,10 +62,31 @@ pub use names::STEALTH_LINE;
 pub use names::STEALTH_SET;
 pub use names::WAITING;
 pub use names::WAYS;
+pub use numbers::CALL_DEL;
+pub use numbers::CALL_LSWITCH;
+pub use numbers::CALL_NEW;
+pub use numbers::CALL_NONE;
+pub use numbers::CALL_PIN;
+pub use numbers::CALL_UNPIN;
+pub use numbers::CALLS;
+pub use numbers::Call;
+pub use numbers::CallBytes;
 pub use numbers::Guest;
+pub use numbers::Held;
+pub use numbers::Lead;
 pub use numbers::Ma;
 pub use numbers::Pa;
+pub use numbers::PinKind;
 pub use numbers::Va;
+pub use numbers::bytes_of;
+pub use numbers::call_of;
+pub use numbers::held_for;
+pub use numbers::is_empty;
+pub use numbers::lead_in;
+pub use numbers::leads_to;
+pub use numbers::pin_kind_of;
+pub use numbers::pin_number;
+pub use numbers::place;
 pub use start::fresh;
 pub use values::active;
 pub use values::free_pages;
@@ -103,18 +110,9 @@ ghost use Rattle.laws.specs.Choice.{at};
 ghost use Rattle.model.specs.Sizes.{addresses, physicals};
 ghost use Rattle.host.specs.Cut.{begin, size};
 ghost use Rattle.host.specs.View.{sizes, view, listed, column, put, ownerField, kindField, cacheableField, entryField, physicalField, currentField};
-ghost use Rattle.host.specs.Lead.{leadOf, heldOf, placeOf, leadsAt};
+ghost use Rattle.numbers.specs.Lead.{leadOf, heldOf};
 
 pub type Host = [u8; SIZE];
-
-// What an entry, a physical place, a line or a TLB slot leads to.
-pub enum Lead {
-    To(Ma),
-    Nowhere,
-}
-
-// What such a place holds, damaged ones too: the page plus one, 0 for none. Its number is this crate's alone.
-pub struct Held(u8);
 
 // ---- fields
 
@@ -157,76 +155,12 @@ fn set(h: &mut Host, k: usize, i: usize, v: u8)
 
 // ---- a page plus one
 
-fn lead_of(e: u8) -> Lead
-    ensures { λ r. ⌜ r ≡ leadOf e ⌝ }
-{
-    if e == 0 {
-        return Lead::Nowhere;
-    }
-    if (e as usize) <= PAGES {
-        Lead::To(Ma(e - 1))
-    } else {
-        Lead::Nowhere
-    }
-}
-
-fn held_of(l: Lead) -> u8
-    ensures { λ r. ⌜ r ≡ heldOf l ⌝ }
-{
-    match l {
-        Lead::To(p) => {
-            let n = p.0;
-            if (n as usize) < PAGES { n + 1 } else { 0 }
-        }
-        Lead::Nowhere => 0,
-    }
-}
-
-// The page, or the number past the last.
-pub fn place(l: Lead) -> Ma
-    ensures { λ r. ⌜ r .0 ≡ placeOf l ⌝ }
-{
-    match l {
-        Lead::To(p) => p,
-        Lead::Nowhere => Ma(PAGES as u8),
-    }
-}
-
-// Whether the lead is to page p.
-pub fn leads_to(l: Lead, p: Ma) -> bool
-    ensures { λ r. ⌜ r ≡ leadsAt l (p .0) ⌝ }
-{
-    match l {
-        Lead::To(q) => q.0 == p.0,
-        Lead::Nowhere => false,
-    }
-}
-
-// To what a place leads that holds x, and what is held for a lead.
-pub fn lead_in(x: Held) -> Lead
-    ensures { λ r. ⌜ r ≡ leadOf (x .0) ⌝ }
-{
-    lead_of(x.0)
-}
-
-pub fn held_for(l: Lead) -> Held
-    ensures { λ r. ⌜ r .0 ≡ heldOf l ⌝ }
-{
-    Held(held_of(l))
-}
-
-pub fn is_empty(x: Held) -> bool
-    ensures { λ r. ⌜ r ≡ eqb (x .0) 0 ⌝ }
-{
-    x.0 == 0
-}
-
 // To what place i of field k leads, and whether it is empty.
 fn get_lead(h: &Host, k: usize, i: usize) -> Lead
     requires { ⌜ listed k ≡ true ⌝ }
     ensures { λ r. ⌜ r ≡ leadOf (at (column k (view (now (h .entry)))) i) ⌝ }
 {
-    lead_of(get(h, k, i))
+    lead_in(Held(get(h, k, i)))
 }
 
 fn get_empty(h: &Host, k: usize, i: usize) -> bool
@@ -240,7 +174,8 @@ fn set_lead(h: &mut Host, k: usize, i: usize, l: Lead)
     requires { ⌜ listed k ≡ true ⌝ }
     ensures { λ _. ⌜ view (now (h .exit)) ≡ put k (view (now (h .entry))) i (heldOf l) ⌝ }
 {
-    set(h, k, i, held_of(l))
+    let x = held_for(l);
+    set(h, k, i, x.0)
 }
 
 // ---- pages

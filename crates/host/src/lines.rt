@@ -17,7 +17,7 @@ ghost use mathlib.Core.Path.{_≡_};
 ghost use lib.Dec.{eqb};
 ghost use Rattle.laws.specs.Choice.{at};
 ghost use Rattle.host.specs.View.{view, put, lineAddressField, linePageField, historyField, slotAddressField, slotPageField};
-ghost use Rattle.host.specs.Lead.{leadOf, heldOf};
+ghost use Rattle.numbers.specs.Lead.{leadOf, heldOf};
 
 // ---- the cache's lines and histories
 

@@ -4,7 +4,7 @@ pub const GUESTS: usize = 4;
 
 pub const PHYSICALS: usize = 16;
 
-pub const PAGES: usize = marks::PAGES as usize;
+pub const PAGES: usize = numbers::PAGES as usize;
 
 pub const ADDRESSES: usize = 64;
 
@@ -48,21 +48,6 @@ pub const KIND_DATA: u8 = 1;
 pub const KIND_TABLE: u8 = 2;
 
 pub const CACHEABLE: u8 = 1;
-
-// Calls, by their number.
-pub const CALL_NONE: u8 = 0;
-
-pub const CALL_NEW: u8 = 1;
-
-pub const CALL_DEL: u8 = 2;
-
-pub const CALL_LSWITCH: u8 = 3;
-
-pub const CALL_PIN: u8 = 4;
-
-pub const CALL_UNPIN: u8 = 5;
-
-pub const CALLS: u8 = 6;
 
 // The largest range of a call's first argument, and of its second.
 pub const CALL_A_BOUND: u8 = ADDRESSES as u8;

@@ -22,7 +22,7 @@ ghost use Rattle.model.specs.Checks.{lowestFree};
 ghost use Rattle.model.specs.Records.{wordAt};
 ghost use Rattle.host.specs.Cut.{setWord, Small};
 ghost use Rattle.host.specs.View.{bytes, view, Whole, valued, worded, putWord, putMemory, putLine, singles, single, putSingle, putActive, putMode, putFree};
-ghost use Rattle.host.specs.Lead.{toward};
+ghost use Rattle.numbers.specs.Lead.{toward};
 
 // What the type of the buffer says. It does nothing.
 fn small(s: &[u8])

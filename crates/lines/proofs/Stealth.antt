@@ -15,7 +15,7 @@ use Rattle.model.specs.State.{State, isPage, table, lineAt, stealthLine}
 use Rattle.model.specs.History.{start}
 use Rattle.model.specs.RuleTests.{stealthPage, rule9?}
 use Rattle.lines.specs.Lines.{firstWay}
-use Rattle.host.proofs.Leads.{leads-at}
+use Rattle.numbers.proofs.Leads.{leads-at}
 
 -- ---- 9
 

@@ -9,7 +9,7 @@ use Rattle.model.specs.Sizes.{pages, addresses, ways, lines, stealth, setOf, sl
 use Rattle.model.specs.Names.{kindData}
 use Rattle.model.specs.State.{State, isPage, table, stealthLine}
 use Rattle.model.specs.RuleTests.{leadsTo}
-use Rattle.host.specs.Lead.{leadOf, leadsAt}
+use Rattle.numbers.specs.Lead.{leadOf, leadsAt}
 use Rattle.asks.specs.Maps.{mapsPageOf}
 
 -- 7, at line i with the key (a, p)

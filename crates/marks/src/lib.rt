@@ -1,5 +1,6 @@
 // The map of free pages as a number: digit n marks page n.
 use numbers::Ma;
+use numbers::PAGES;
 ghost use mathlib.Core.Path.{_≡_};
 ghost use Prim.Native.Nat.{_^_, _<_};
 ghost use Rattle.laws.specs.Choice.{pick};
@@ -8,9 +9,6 @@ ghost use Rattle.laws.specs.Bits.{marks, marked, unmarked};
 ghost use Rattle.model.specs.Sizes.{pages};
 ghost use Rattle.model.specs.State.{isPage};
 ghost use Rattle.model.specs.Checks.{lowestFree};
-
-// A map has a digit for each page.
-pub const PAGES: u8 = 64;
 
 fn one_bit(n: u8) -> u64
     requires { ⌜ n < pages ⌝ }

@@ -10,7 +10,7 @@ use Rattle.model.specs.Sizes.{guests, physicals, pages, addresses, stealth, fir
 use Rattle.model.specs.Names.{ownerNone, ownerHost, ownerGuest, kindNone, kindData, kindTable, running}
 use Rattle.model.specs.State.{State, lead, isPage}
 use Rattle.model.specs.RuleTests.{leadsTo, stored, fits}
-use Rattle.host.specs.Lead.{leadOf, leadsAt}
+use Rattle.numbers.specs.Lead.{leadOf, leadsAt}
 
 -- 3, at a physical address: the page there is the guest's, and stands at no other of its addresses
 unfoldable pub heldBy : State → ℕ → ℕ → ℕ → Bool

@@ -23,7 +23,7 @@ ghost use mathlib.Core.Path.{_≡_};
 ghost use Prim.Native.Nat.{_+_, _/_, _%_, _<_};
 ghost use Rattle.model.specs.RuleTests.{stored, fits};
 ghost use Rattle.host.specs.View.{view};
-ghost use Rattle.host.specs.Calls.{bytesOf};
+ghost use Rattle.numbers.specs.Calls.{bytesOf};
 ghost use Rattle.places.specs.Places.{heldBy, heldOnce, registeredAt, currentTable, stealthCacheable, callKept, pageOf, pageKept};
 
 const GUESTS: u8 = host::GUESTS as u8;

@@ -5,7 +5,7 @@ use Prim.Native.Nat.{ℕ}
 use Rattle.model.specs.Records.{silent, read, readHyper, write, writeHyper, new, newSm, del, switch, lswitch, hcall, retCtrl, chmod, pin, unpin}
 use Rattle.model.specs.Records as records
 use Rattle.numbers.specs.declared.Guest.{Guest}
-use Rattle.host.specs.Calls.{va, pa, callOf, pinKindOf}
+use Rattle.numbers.specs.Calls.{va, pa, callOf, pinKindOf}
 use Rattle.records.specs.declared.Action.{Action}
 use Rattle.records.specs.declared.Action.the-variants.{Silent, Read, ReadHyper, Write, WriteHyper, New, NewSm, Del, Switch, Lswitch, Hcall, RetCtrl, Chmod, Pin, Unpin}
 use Rattle.records.specs.declared.Decoded.{Decoded}

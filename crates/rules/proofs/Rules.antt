@@ -15,8 +15,8 @@ use Rattle.model.specs.Names.{ownerGuest, kindData}
 use Rattle.model.specs.State.{State, isPage, table, mapsPage}
 use Rattle.model.specs.Valid.{Sized}
 use Rattle.model.specs.RuleTests.{leadsTo, rule3?, rule4?, rule7?, rule8?}
-use Rattle.host.specs.Lead.{leadOf, leadsAt}
-use Rattle.host.proofs.Leads.{leads-at}
+use Rattle.numbers.specs.Lead.{leadOf, leadsAt}
+use Rattle.numbers.proofs.Leads.{leads-at}
 use Rattle.places.specs.Places.{heldBy, heldOnce, registeredAt}
 use Rattle.lines.specs.Lines.{linedBy, lined, slotBy, slotted}
 use Rattle.entries.specs.Entries.{ownBy, ownAt}

@@ -12,10 +12,10 @@ use Rattle.model.specs.State.{lead, isPage}
 use Rattle.model.specs.RuleTests.{leadsTo}
 use Rattle.model.proofs.RuleTests.{lead-page, lead-holds}
 use Rattle.numbers.specs.declared.Ma.{Ma}
-use Rattle.host.specs.declared.Lead.{Lead}
-use Rattle.host.specs.declared.Lead.the-variants.{To, Nowhere}
-use Rattle.host.specs.Lead.{ma, leadOf, placeOf}
-use Rattle.host.proofs.Leads.{toward-page, toward-none, place-lead}
+use Rattle.numbers.specs.declared.Lead.{Lead}
+use Rattle.numbers.specs.declared.Lead.the-variants.{To, Nowhere}
+use Rattle.numbers.specs.Lead.{ma, leadOf, placeOf}
+use Rattle.numbers.proofs.Leads.{toward-page, toward-none, place-lead}
 use Rattle.seek.specs.Leads.{placed}
 
 -- ---- a lead to a page

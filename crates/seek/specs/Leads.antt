@@ -6,9 +6,9 @@ use lib.Dec.{eqb}
 use Rattle.laws.specs.Choice.{at, _⇒_}
 use Rattle.model.specs.Sizes.{physicals, pages}
 use Rattle.model.specs.State.{State}
-use Rattle.host.specs.Lead.{leadOf, leadsAt}
-use Rattle.host.specs.declared.Lead.{Lead}
-use Rattle.host.specs.declared.Lead.the-variants.{To, Nowhere}
+use Rattle.numbers.specs.Lead.{leadOf, leadsAt}
+use Rattle.numbers.specs.declared.Lead.{Lead}
+use Rattle.numbers.specs.declared.Lead.the-variants.{To, Nowhere}
 use Rattle.seek.specs.declared.Sought.{Sought}
 use Rattle.seek.specs.declared.Sought.the-variants.{HeldAgain, HeldAt}
 

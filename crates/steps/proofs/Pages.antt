@@ -9,9 +9,9 @@ use Rattle.laws.proofs.Tests.{lt⇔, not-so}
 use Rattle.model.specs.Sizes.{pages}
 use Rattle.model.specs.State.{isPage}
 use Rattle.numbers.specs.declared.Ma.{Ma}
-use Rattle.host.specs.declared.Lead.{Lead}
-use Rattle.host.specs.declared.Lead.the-variants.{To, Nowhere}
-use Rattle.host.specs.Lead.{toward}
+use Rattle.numbers.specs.declared.Lead.{Lead}
+use Rattle.numbers.specs.declared.Lead.the-variants.{To, Nowhere}
+use Rattle.numbers.specs.Lead.{toward}
 use Rattle.acts.proofs.Pages.{led, led-nowhere}
 
 module _ (n : ℕ) (l : Lead) (e : l ≡ toward n) {A : Type 0} (f : ℕ → A) (d : A) where

@@ -11,7 +11,7 @@ ghost use Rattle.model.specs.Write.{writeStep};
 ghost use Rattle.model.specs.NewSm.{newSmStep};
 ghost use Rattle.model.specs.Unpin.{unpinStep};
 ghost use Rattle.host.specs.View.{view};
-ghost use Rattle.host.specs.Lead.{toward};
+ghost use Rattle.numbers.specs.Lead.{toward};
 ghost use Rattle.acts.specs.Mapped.{created};
 ghost use Rattle.asks.specs.Actions.{actionFrom};
 ghost use Rattle.steps.specs.Acting.{onPage, performed};

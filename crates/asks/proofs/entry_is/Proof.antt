@@ -5,9 +5,9 @@ use Prim.Native.Nat.{_+_, _*_}
 use Rattle.laws.specs.Choice.{at}
 use Rattle.model.specs.Sizes.{addresses}
 use Rattle.host.specs.View.{view}
-use Rattle.host.specs.declared.Lead.{Lead}
-use Rattle.host.specs.Lead.{leadsAt}
-use Rattle.host.proofs.Leads.{leads-is}
+use Rattle.numbers.specs.declared.Lead.{Lead}
+use Rattle.numbers.specs.Lead.{leadsAt}
+use Rattle.numbers.proofs.Leads.{leads-is}
 use borrow.Author.Needs.{needs}
 use Rattle.asks.proofs.entry_is.Statement.{statement}
 use Rattle.asks.proofs.entry_is.Tie as tie

@@ -5,7 +5,7 @@ use Prim.Native.Nat.{ℕ, _+_, _*_}
 use Rattle.laws.specs.Choice.{at}
 use Rattle.model.specs.Sizes.{physicals}
 use Rattle.host.specs.View.{view}
-use Rattle.host.specs.Lead.{leadOf}
+use Rattle.numbers.specs.Lead.{leadOf}
 use borrow.Author.Needs.{needs}
 use Rattle.asks.proofs.here.Statement.{statement}
 use Rattle.asks.proofs.here.Tie as tie

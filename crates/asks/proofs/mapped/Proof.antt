@@ -6,8 +6,8 @@ use Rattle.laws.specs.Choice.{at}
 use Rattle.model.specs.Sizes.{addresses}
 use Rattle.model.specs.State.{table}
 use Rattle.host.specs.View.{view}
-use Rattle.host.specs.Lead.{leadOf, placeOf}
-use Rattle.host.proofs.Leads.{place-toward}
+use Rattle.numbers.specs.Lead.{leadOf, placeOf}
+use Rattle.numbers.proofs.Leads.{place-toward}
 use Rattle.asks.proofs.Tables.{table-below}
 use borrow.Author.Needs.{needs}
 use Rattle.asks.proofs.mapped.Statement.{statement}

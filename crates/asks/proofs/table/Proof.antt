@@ -2,7 +2,7 @@
 -- Assumes nothing.
 use mathlib.Core.Path.{ap, _∙_}
 use Rattle.host.specs.View.{view}
-use Rattle.host.specs.Lead.{toward}
+use Rattle.numbers.specs.Lead.{toward}
 use Rattle.asks.specs.Leads.{onlyTable}
 use Rattle.asks.proofs.Tables.{table-in, table-out, in-force}
 use borrow.Author.Needs.{needs}

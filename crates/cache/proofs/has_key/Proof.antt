@@ -3,8 +3,8 @@
 use mathlib.Core.Path.{sym, ap, _∙_}
 use mathlib.Core.Bool.{Bool, _&&_}
 use lib.Dec.{eqb}
-use Rattle.host.specs.declared.Lead.{Lead}
-use Rattle.host.specs.Lead.{leadsAt}
+use Rattle.numbers.specs.declared.Lead.{Lead}
+use Rattle.numbers.specs.Lead.{leadsAt}
 use borrow.Author.Needs.{needs}
 use Rattle.cache.proofs.has_key.Statement.{statement}
 use Rattle.cache.proofs.has_key.Tie as tie

@@ -5,8 +5,8 @@ use Prim.Native.Nat.{_+_, _*_}
 use Rattle.laws.specs.Choice.{at}
 use Rattle.model.specs.Sizes.{addresses}
 use Rattle.host.specs.View.{view}
-use Rattle.host.specs.Lead.{placeOf}
-use Rattle.host.proofs.Leads.{place-lead}
+use Rattle.numbers.specs.Lead.{placeOf}
+use Rattle.numbers.proofs.Leads.{place-lead}
 use Rattle.entries.proofs.Shared.{count-page, count-none}
 use borrow.Author.Needs.{needs}
 use Rattle.entries.proofs.counted_page.Statement.{statement}

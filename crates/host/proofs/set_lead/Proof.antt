@@ -7,8 +7,8 @@ use Rattle.host.specs.View.{view, put}
 use Rattle.host.proofs.set_lead.Statement.{statement}
 use Rattle.host.proofs.set_lead.Tie as tie
 
-held-of-requires : tie.Need-held-of-requires
-held-of-requires c κs = search needs
+held-for-requires : tie.Need-held-for-requires
+held-for-requires c κs = search needs
 
 set-requires : tie.Need-set-requires
 set-requires c κs = search needs
@@ -16,7 +16,7 @@ set-requires c κs = search needs
 returns : tie.Need-returns
 returns c =
     let a = c .before .before .before .args in
-    c .set .ensures ∙ ap (λ (x : ℕ). put (a .k) (view (a .h .now)) (a .i) x) (c .before .held-of .ensures)
+    c .set .ensures ∙ ap (λ (x : ℕ). put (a .k) (view (a .h .now)) (a .i) x) (c .before .before .held-for .ensures)
 
 pub set-lead-spec : {M : Type 1} → statement M
-set-lead-spec = tie.close (tie.spec held-of-requires set-requires returns)
+set-lead-spec = tie.close (tie.spec held-for-requires set-requires returns)

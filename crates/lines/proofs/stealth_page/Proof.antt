@@ -7,8 +7,8 @@ use borrow.Author.Tests.{lt-ltb, le-ltb}
 use Rattle.laws.specs.Choice.{at}
 use Rattle.model.specs.Sizes.{pages, addresses, stealth}
 use Rattle.host.specs.View.{view}
-use Rattle.host.specs.Lead.{placeOf}
-use Rattle.host.proofs.Leads.{place-lead}
+use Rattle.numbers.specs.Lead.{placeOf}
+use Rattle.numbers.proofs.Leads.{place-lead}
 use borrow.Author.Needs.{needs}
 use Rattle.lines.proofs.stealth_page.Statement.{statement}
 use Rattle.lines.proofs.stealth_page.Tie as tie

@@ -3,8 +3,8 @@
 use mathlib.Core.Path.{ap, _∙_}
 use Rattle.model.specs.State.{table}
 use Rattle.host.specs.View.{view}
-use Rattle.host.specs.Lead.{placeOf}
-use Rattle.host.proofs.Leads.{place-toward}
+use Rattle.numbers.specs.Lead.{placeOf}
+use Rattle.numbers.proofs.Leads.{place-toward}
 use Rattle.asks.proofs.Tables.{table-below}
 use borrow.Author.Needs.{needs}
 use Rattle.lines.proofs.table_in_force.Statement.{statement}

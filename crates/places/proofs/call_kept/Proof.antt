@@ -2,7 +2,7 @@
 -- Assumes nothing.
 use Rattle.laws.specs.Choice.{at}
 use Rattle.host.specs.View.{view}
-use Rattle.host.proofs.CallNumbers.{bytes-call}
+use Rattle.numbers.proofs.CallNumbers.{bytes-call}
 use Rattle.places.specs.Places.{callKept}
 use borrow.Author.Needs.{needs}
 use Rattle.places.proofs.call_kept.Statement.{statement}

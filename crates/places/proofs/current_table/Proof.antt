@@ -5,7 +5,7 @@ use Rattle.laws.specs.Choice.{at}
 use Rattle.model.specs.Sizes.{physicals}
 use Rattle.host.specs.View.{view}
 use Rattle.places.specs.Places.{currentTable}
-use Rattle.host.proofs.Leads.{place-lead}
+use Rattle.numbers.proofs.Leads.{place-lead}
 use borrow.Author.Needs.{needs}
 use Rattle.places.proofs.current_table.Statement.{statement}
 use Rattle.places.proofs.current_table.Tie as tie

@@ -9,7 +9,7 @@ use Rattle.laws.specs.Choice.{at}
 use Rattle.laws.specs.Search.{someBelow}
 use Rattle.model.specs.Sizes.{physicals}
 use Rattle.model.specs.Names.{ownerGuest}
-use Rattle.host.specs.Lead.{leadOf, leadsAt}
+use Rattle.numbers.specs.Lead.{leadOf, leadsAt}
 use Rattle.host.specs.View.{view}
 use Rattle.seek.specs.Leads.{sought}
 use Rattle.places.specs.Places.{registeredAt}

@@ -5,7 +5,7 @@ use Rattle.laws.specs.Choice.{at}
 use Rattle.model.specs.Sizes.{addresses, stealth}
 use Rattle.host.specs.View.{view}
 use Rattle.places.specs.Places.{stealthCacheable}
-use Rattle.host.proofs.Leads.{place-lead}
+use Rattle.numbers.proofs.Leads.{place-lead}
 use borrow.Author.Needs.{needs}
 use Rattle.places.proofs.stealth_cacheable.Statement.{statement}
 use Rattle.places.proofs.stealth_cacheable.Tie as tie

@@ -2,7 +2,7 @@
 -- Assumes nothing.
 use Rattle.laws.specs.Choice.{at}
 use Rattle.host.specs.View.{view}
-use Rattle.host.proofs.CallNumbers.{bytes-call}
+use Rattle.numbers.proofs.CallNumbers.{bytes-call}
 use Rattle.ranges.specs.Ranges.{guestInRange}
 use borrow.Author.Needs.{needs}
 use Rattle.ranges.proofs.guest_in_range.Statement.{statement}

@@ -4,7 +4,7 @@ use mathlib.Core.Path.{_∙_}
 use Rattle.model.specs.Checks.{lowestFree}
 use native.Mathlib.Omega.{arith}
 use Rattle.host.specs.View.{view}
-use Rattle.host.specs.Calls.{pinNumber}
+use Rattle.numbers.specs.Calls.{pinNumber}
 use Rattle.acts.proofs.Pinning.{pinned-page, pinned-not}
 use Rattle.acts.proofs.Pages.{led, led-nowhere}
 use borrow.Author.Needs.{needs}

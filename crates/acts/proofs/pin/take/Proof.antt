@@ -4,7 +4,7 @@ use mathlib.Core.Path.{ap, _∙_}
 use Prim.Native.Nat.{_+_}
 use native.Mathlib.Omega.{arith}
 use Rattle.host.specs.View.{view}
-use Rattle.host.specs.Calls.{pinNumber}
+use Rattle.numbers.specs.Calls.{pinNumber}
 use Rattle.acts.specs.Pinned.{renewed}
 use Rattle.acts.proofs.Pinning.{taken-over}
 use borrow.Author.Needs.{needs}

@@ -2,8 +2,8 @@
 -- Assumes nothing.
 use mathlib.Core.Path.{ap, _∙_}
 use Rattle.host.specs.View.{view}
-use Rattle.host.specs.Lead.{placeOf}
-use Rattle.host.proofs.Leads.{place-toward}
+use Rattle.numbers.specs.Lead.{placeOf}
+use Rattle.numbers.proofs.Leads.{place-toward}
 use Rattle.model.specs.State.{table}
 use Rattle.asks.proofs.Tables.{table-below}
 use borrow.Author.Needs.{needs}

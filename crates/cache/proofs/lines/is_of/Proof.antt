@@ -2,10 +2,10 @@
 -- Assumes nothing.
 use mathlib.Core.Path.{ap, _∙_}
 use Rattle.laws.specs.Choice.{at}
-use Rattle.host.specs.declared.Lead.{Lead}
+use Rattle.numbers.specs.declared.Lead.{Lead}
 use Rattle.host.specs.View.{view}
-use Rattle.host.specs.Lead.{leadsAt}
-use Rattle.host.proofs.Leads.{leads-at}
+use Rattle.numbers.specs.Lead.{leadsAt}
+use Rattle.numbers.proofs.Leads.{leads-at}
 use borrow.Author.Needs.{needs}
 use Rattle.cache.proofs.lines.is_of.Statement.{statement}
 use Rattle.cache.proofs.lines.is_of.Tie as tie

@@ -2,8 +2,8 @@
 -- Assumes nothing.
 use mathlib.Core.Path.{sym, ap, _∙_}
 use Rattle.model.specs.Checks.{lowestFree}
-use Rattle.host.specs.Lead.{toward}
-use Rattle.host.proofs.Leads.{toward-page, toward-none}
+use Rattle.numbers.specs.Lead.{toward}
+use Rattle.numbers.proofs.Leads.{toward-page, toward-none}
 use borrow.Author.Needs.{needs}
 use Rattle.host.proofs.values.lowest_free.Statement.{statement}
 use Rattle.host.proofs.values.lowest_free.Tie as tie

@@ -1,10 +1,10 @@
 -- Each call by itself.
 -- Assumes nothing.
 use mathlib.Core.Path.{sym, ap}
-use Rattle.host.specs.Calls.{bytesOf}
+use Rattle.numbers.specs.Calls.{bytesOf}
 use borrow.Author.Needs.{needs}
-use Rattle.host.proofs.calls.bytes_of.Statement.{statement}
-use Rattle.host.proofs.calls.bytes_of.Tie as tie
+use Rattle.numbers.proofs.calls.bytes_of.Statement.{statement}
+use Rattle.numbers.proofs.calls.bytes_of.Tie as tie
 
 enum-told : tie.Need-enum-told
 enum-told c = search needs

@@ -9,13 +9,13 @@ use Rattle.laws.specs.Choice.{pick}
 use Rattle.laws.proofs.Cases.{split, below?, pick-yes, pick-not}
 use Rattle.laws.proofs.Tests.{and⇔, eq⇔}
 use Rattle.model.specs.Sizes.{calls, pinKinds}
-use Rattle.host.specs.declared.calls.PinKind.{PinKind}
-use Rattle.host.specs.declared.calls.PinKind.the-variants.{Data, Table}
-use Rattle.host.specs.declared.calls.Call.{Call}
-use Rattle.host.specs.declared.calls.Call.the-variants.{None, Other}
-use Rattle.host.specs.declared.calls.CallBytes.{CallBytes}
-use Rattle.host.specs.Calls.{pinKindOf, pinNumber, callBytes, bytesOf, sameBytes, callNamed, callOf}
-use Rattle.host.proofs.Others.{Others, none-left}
+use Rattle.numbers.specs.declared.calls.PinKind.{PinKind}
+use Rattle.numbers.specs.declared.calls.PinKind.the-variants.{Data, Table}
+use Rattle.numbers.specs.declared.calls.Call.{Call}
+use Rattle.numbers.specs.declared.calls.Call.the-variants.{None, Other}
+use Rattle.numbers.specs.declared.calls.CallBytes.{CallBytes}
+use Rattle.numbers.specs.Calls.{pinKindOf, pinNumber, callBytes, bytesOf, sameBytes, callNamed, callOf}
+use Rattle.numbers.proofs.Others.{Others, none-left}
 
 -- ---- a pin's kind
 

@@ -1,9 +1,9 @@
 -- Each number has its arm; a number past the last has that of none.
 -- Assumes nothing.
-use Rattle.host.proofs.CallNumbers.{none-else}
+use Rattle.numbers.proofs.CallNumbers.{none-else}
 use borrow.Author.Needs.{needs}
-use Rattle.host.proofs.calls.named.Statement.{statement}
-use Rattle.host.proofs.calls.named.Tie as tie
+use Rattle.numbers.proofs.calls.named.Statement.{statement}
+use Rattle.numbers.proofs.calls.named.Tie as tie
 
 pin-kind-of-requires : tie.Need-pin-kind-of-requires
 pin-kind-of-requires c κs = search needs

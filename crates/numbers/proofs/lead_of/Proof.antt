@@ -2,15 +2,15 @@
 -- Assumes nothing.
 use native.Mathlib.Omega.{arith}
 use borrow.Author.Needs.{needs}
-use Rattle.host.proofs.Leads.{leads-none, leads-page, leads-past}
-use Rattle.host.proofs.lead_of.Statement.{statement}
-use Rattle.host.proofs.lead_of.Tie as tie
+use Rattle.numbers.proofs.Leads.{leads-none, leads-page, leads-past}
+use Rattle.numbers.proofs.lead_of.Statement.{statement}
+use Rattle.numbers.proofs.lead_of.Tie as tie
 
 returns : tie.Need-returns
 returns c = leads-none (c .before .args .e) (c .if1 .taken)
 
-sub-t5 : tie.Need-sub-t5
-sub-t5 c = search needs
+sub-t4 : tie.Need-sub-t4
+sub-t4 c = search needs
 
 returns-2 : tie.Need-returns-2
 returns-2 c = leads-page (c .before .before .args .e) (omega arith) (omega arith)
@@ -19,4 +19,4 @@ returns-3 : tie.Need-returns-3
 returns-3 c = leads-past (c .before .before .args .e) (omega arith)
 
 pub lead-of-spec : {M : Type 1} → statement M
-lead-of-spec = tie.close (tie.spec returns sub-t5 returns-2 returns-3)
+lead-of-spec = tie.close (tie.spec returns sub-t4 returns-2 returns-3)

@@ -1,9 +1,9 @@
 -- 0 is data, every other number table.
 -- Assumes nothing.
-use Rattle.host.proofs.CallNumbers.{kind-table}
+use Rattle.numbers.proofs.CallNumbers.{kind-table}
 use borrow.Author.Needs.{needs}
-use Rattle.host.proofs.calls.pin_kind_of.Statement.{statement}
-use Rattle.host.proofs.calls.pin_kind_of.Tie as tie
+use Rattle.numbers.proofs.calls.pin_kind_of.Statement.{statement}
+use Rattle.numbers.proofs.calls.pin_kind_of.Tie as tie
 
 returns : tie.Need-returns
 returns c = search needs

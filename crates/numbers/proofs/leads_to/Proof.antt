@@ -1,11 +1,11 @@
 -- A page leads to itself alone, and nowhere to no page.
 -- Assumes nothing.
 use mathlib.Core.Path.{sym, ap}
-use Rattle.host.specs.declared.Lead.{Lead}
-use Rattle.host.specs.Lead.{leadsAt}
+use Rattle.numbers.specs.declared.Lead.{Lead}
+use Rattle.numbers.specs.Lead.{leadsAt}
 use borrow.Author.Needs.{needs}
-use Rattle.host.proofs.leads_to.Statement.{statement}
-use Rattle.host.proofs.leads_to.Tie as tie
+use Rattle.numbers.proofs.leads_to.Statement.{statement}
+use Rattle.numbers.proofs.leads_to.Tie as tie
 
 enum-known-l : tie.Need-enum-known-l
 enum-known-l c = search needs

@@ -2,15 +2,12 @@
 -- Assumes nothing.
 use native.Mathlib.Omega.{arith}
 use borrow.Author.Needs.{needs}
-use Rattle.host.proofs.Leads.{holds-page, holds-none}
-use Rattle.host.proofs.held_of.Statement.{statement}
-use Rattle.host.proofs.held_of.Tie as tie
+use Rattle.numbers.proofs.Leads.{holds-page, holds-none}
+use Rattle.numbers.proofs.held_of.Statement.{statement}
+use Rattle.numbers.proofs.held_of.Tie as tie
 
 enum-known-l : tie.Need-enum-known-l
 enum-known-l c = search needs
-
-cast-if1 : tie.Need-cast-if1
-cast-if1 c = search needs
 
 add-result : tie.Need-add-result
 add-result c = search needs
@@ -32,4 +29,4 @@ returns-3 : tie.Need-returns-3
 returns-3 c = search needs
 
 pub held-of-spec : {M : Type 1} → statement M
-held-of-spec = tie.close (tie.spec enum-known-l cast-if1 add-result enum-told returns returns-2 returns-3)
+held-of-spec = tie.close (tie.spec enum-known-l add-result enum-told returns returns-2 returns-3)

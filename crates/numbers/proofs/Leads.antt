@@ -11,10 +11,10 @@ use Rattle.laws.proofs.Cases.{split, same?, below?}
 use Rattle.model.specs.Sizes.{pages}
 use Rattle.model.specs.State.{lead, nowhere, isPage}
 use Rattle.model.proofs.RuleTests.{lead-page, lead-past}
 use Rattle.numbers.specs.declared.Ma.{Ma}
-use Rattle.host.specs.declared.Lead.{Lead}
-use Rattle.host.specs.declared.Lead.the-variants.{To, Nowhere}
-use Rattle.host.specs.Lead.{ma, toward, leadOf, heldOf, placeOf, leadsAt}
+use Rattle.numbers.specs.declared.Lead.{Lead}
+use Rattle.numbers.specs.declared.Lead.the-variants.{To, Nowhere}
+use Rattle.numbers.specs.Lead.{ma, toward, leadOf, heldOf, placeOf, leadsAt}
 
 pub toward-page : (p : ℕ) → p < pages → toward p ≡ To (ma p)
 toward-page p h = rw (lt-ltb p pages h)

@@ -1,9 +1,9 @@
 -- The call of the number if its bytes are these, and else none.
 -- Assumes nothing.
-use Rattle.host.proofs.CallNumbers.{reads-named, reads-other}
+use Rattle.numbers.proofs.CallNumbers.{reads-named, reads-other}
 use borrow.Author.Needs.{needs}
-use Rattle.host.proofs.calls.call_of.Statement.{statement}
-use Rattle.host.proofs.calls.call_of.Tie as tie
+use Rattle.numbers.proofs.calls.call_of.Statement.{statement}
+use Rattle.numbers.proofs.calls.call_of.Tie as tie
 
 named-requires : tie.Need-named-requires
 named-requires c κs = search needs

@@ -1,0 +1,3 @@
+pub mod Leads
+pub mod Others
+pub mod CallNumbers
