@@ -203,4 +203,8 @@ pub extern "C" fn ration_step(h: &mut Host)
 }
 """,
     "crates/rpj/src/main.rt": "fn main() {\n    steps::put(b\"\", b\"\", 0);\n}\n",
+    "target/must-fail/model/a_size_less/.log": "a.antt:1:1: error: `samples-pass`: the two types differ\n",
+    "target/must-fail/model/a_rule_left_out/.log": "a.antt:1:1: error: `omega`: the goal does not follow from what it read\n",
+    "target/must-fail/host/another_stored/.log": "fn host::set_owner: no proof: `search` does not close `returns`\n",
+    "target/must-fail/steps/refuses_all/.log": "a.antt:9:9: error: `act-spec`: `close` was not admitted\n",
 }
