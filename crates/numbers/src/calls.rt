@@ -101,11 +101,7 @@ pub fn bytes_of(x: Call) -> CallBytes
             a: p.0,
             b: 0,
         },
-        Call::Other(c, a, b) => CallBytes {
-            number: c,
-            a: a,
-            b: b,
-        },
+        Call::Other(number, a, b) => CallBytes { number, a, b },
     }
 }
 
