@@ -1,4 +1,4 @@
-// Document 01's sample runs that are not proved, and the edges of a journal: answers, and what is then in memory, marks and lines. The second
+// Runs of the rule book, and the edges of a journal: answers, and what is then in memory, marks and lines. The second
 // program prints the same from a state of its own.
 mod edges; // edges.rt: journals of the lengths where the answer changes
 mod show; // show.rt: what is printed

@@ -1,4 +1,4 @@
--- Pasts by hand: what the definitions of Past.antt say of document 01's nine records, of a page pinned again, and of two guests at one address.
+-- Pasts by hand: what the definitions of Past.antt say of the nine records, of a page pinned again, and of two guests at one address.
 -- Assumes nothing.
 use mathlib.Core.Path.{_≡_, refl}
 use mathlib.Core.List.{List, [], _∷_, map}

@@ -1,4 +1,4 @@
-// Document 01's sizes, and the numbers that stand for names in a state.
+// The sizes of docs/HOST.md, and the numbers that stand for names in a state.
 
 pub const GUESTS: usize = 4;
 

@@ -26,7 +26,7 @@ abbrev pub verdictFrom : Verdict → model.Verdict
 verdictFrom (Done r) = ran (reportFrom r)
 verdictFrom (Refused n) = turnedAway n
 
--- document 01's run: journal j on state s, with the answer buffer b
+-- the run of a journal: journal j on state s, with the answer buffer b
 pub record Runs (s : State) (j b : List ℕ) (v : Verdict) (t : State) (c : List ℕ) : Type 0 where
   pub verdict : v ≡ verdictTo (journal s j b .verdict)
   pub state : t ≡ journal s j b .state

@@ -1,4 +1,4 @@
--- What allows an action, said in the positive: the preconditions of document 01's table of actions, one named field for each.
+-- What allows an action, said in the positive: the preconditions of docs/HOST.md, "Records and answers", one named field for each.
 -- Assumes nothing.
 use mathlib.Core.Path.{_≡_}
 use mathlib.Core.Logic.{_≢_}

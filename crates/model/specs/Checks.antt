@@ -1,4 +1,4 @@
--- Document 01, "Records and answers": the questions that checks ask of a state, and checks in order of number.
+-- docs/HOST.md, "Records and answers": the questions that checks ask of a state, and checks in order of number.
 -- Assumes nothing.
 use mathlib.Core.Bool.{Bool, true, false, _&&_, _||_, not}
 use mathlib.Core.List.{List, [], _∷_}

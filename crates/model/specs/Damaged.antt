@@ -1,7 +1,7 @@
--- Document 01, "Valid states", as one table of damaged states: for each clause of each rule a state that breaks it, and for readings that were
+-- docs/HOST.md, "Valid states", as one table of damaged states: for each clause of each rule a state that breaks it, and for readings that were
 -- decided a state that does not. A row is a few numbers changed in the fresh machine, or in one machine in use; the rule it is about; and the
 -- rules that are broken there, that one alone wherever this is possible. Here each row's own rule is tested; `damage` tests all ten.
--- Places hold a page plus one. Pages and addresses are spelled, at the edges of document 01's sizes where it can be.
+-- Places hold a page plus one. Pages and addresses are spelled, at the edges of the sizes where it can be.
 -- Assumes nothing.
 use mathlib.Core.Bool.{Bool, _&&_, Bool·beq}
 use mathlib.Core.List.{List, [], _∷_, _++_}

@@ -1,4 +1,4 @@
--- Document 01, "Sizes and state": the fresh machine.
+-- docs/HOST.md, "Sizes and state": the fresh machine.
 -- Assumes nothing.
 use Prim.Native.Nat.{ℕ, suc, _*_, _-_, _/_, _%_, _^_}
 use lib.Dec.{ltb, eqb}

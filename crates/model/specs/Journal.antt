@@ -1,4 +1,4 @@
--- Document 01, "Journal and program": a journal's header, limits, refusals, report and answers, on bytes.
+-- docs/HOST.md, "Journal and program": a journal's header, limits, refusals, report and answers, on bytes.
 -- Assumes nothing.
 use mathlib.Core.Bool.{Bool, true, false, _&&_, not}
 use mathlib.Core.List.{List, [], _∷_, _++_}

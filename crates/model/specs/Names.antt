@@ -1,4 +1,4 @@
--- Document 01, "Sizes and state": the numbers that stand for owners, kinds and modes.
+-- docs/HOST.md, "Sizes and state": the numbers that stand for owners, kinds and modes.
 -- Assumes nothing.
 use Prim.Native.Nat.{ℕ, _+_}
 

@@ -1,4 +1,4 @@
--- Document 01, "Steps": the small parts that steps are made of.
+-- docs/HOST.md, "Steps": the small parts that steps are made of.
 -- Each part gives the whole anew and has its choices inside fields, so that what it leaves alone is the same by computation. Where nothing is
 -- to happen, the place is one past the end.
 -- Assumes nothing.

@@ -1,4 +1,4 @@
--- Document 01, "Records and answers": the table of kinds, actions, and records as bytes.
+-- docs/HOST.md, "Records and answers": the table of kinds, actions, and records as bytes.
 -- Assumes nothing.
 use mathlib.Core.Path.{_≡_}
 use mathlib.Core.Bool.{Bool, _&&_, _||_}

@@ -1,4 +1,4 @@
--- Document 01, "Valid states": the ten rules as tests, each at every place of its list, in the order that docs/RULES.md states.
+-- docs/HOST.md, "Valid states": the ten rules as tests, each at every place of its list, in the order that docs/RULES.md states.
 -- Assumes nothing.
 use mathlib.Core.Bool.{Bool, _&&_, _||_, not, Bool·beq}
 use mathlib.Core.List.{List, [], _∷_}

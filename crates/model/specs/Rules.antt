@@ -1,4 +1,4 @@
--- Document 01, "Valid states": the ten rules, each over the lists that it reads.
+-- docs/HOST.md, "Valid states": the ten rules, each over the lists that it reads.
 -- A place holds a page plus one: `≡ suc p` says that it is not empty and holds p. Where it must lead to a page, a number out of range breaks the rule.
 -- Assumes nothing.
 use mathlib.Core.Path.{_≡_}

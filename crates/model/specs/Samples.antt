@@ -1,7 +1,8 @@
--- Document 01, "Sample runs", as one table: records from the fresh machine, the answer to each, and a test of the state at the end. Rows with
+-- docs/HOST.md, "Worked runs", and more, as one table: records from the fresh machine, the answer to each, and a test of the state at the end. Rows with
 -- the same beginning stand together, and it is run once.
--- First the rows marked P, then the other runs, then rows of ours: at least one for each mend of the paper, and the checks in their order.
--- The numbers here are document 01's own, spelled as it spells them.
+-- First single records and short runs, then the nine records and the runs after them, at least one for each mend of the paper, and the checks in their
+-- order.
+-- The numbers here are spelled as the rule book spells them.
 -- Assumes nothing.
 use mathlib.Core.Bool.{Bool, true, false, _&&_, Bool·beq}
 use mathlib.Core.List.{List, [], _∷_, _++_}
@@ -128,13 +129,13 @@ slotIs i va p s = eqb (at (s .shape .tlb .slotAddress) i) va && eqb (at (s .shap
 abbrev pub slotEmpty : ℕ → State → Bool
 slotEmpty i s = eqb (at (s .shape .tlb .slotAddress) i) 0 && eqb (at (s .shape .tlb .slotPage) i) 0
 
--- ---- document 01's rows marked P, and the sample runs that are not marked
+-- ---- single records and short runs, the nine records, a line taken out, all pages pinned
 
--- the nine records of "Journal and program"
+-- the nine records
 abbrev pub nine : List Exchange
 nine = pins 1 0 ++ maps 0 1 ++ does (write 0 300) ++ yields 0 300 ++ gets 6 (read 1)
 
--- the same as document 01 writes their bytes
+-- the same as bytes
 abbrev pub nineBytes : List ℕ
 nineBytes =
     0x0A ∷ 0x01 ∷ 0x00 ∷ 0x04 ∷ 0x00 ∷ 0x00 ∷ 0x00 ∷ 0x00 ∷ 0x0D ∷ 0x01 ∷ 0x00 ∷ 0x00 ∷ 0x00 ∷ 0x00 ∷ 0x00 ∷ 0x00
@@ -143,8 +144,8 @@ nineBytes =
     ∷ 0x03 ∷ 0x00 ∷ 0x00 ∷ 0x00 ∷ 0x2C ∷ 0x01 ∷ 0x00 ∷ 0x00 ∷ 0x01 ∷ 0x00 ∷ 0x00 ∷ 0x00 ∷ 0x00 ∷ 0x00 ∷ 0x00 ∷ 0x00
     ∷ 0x01 ∷ 0x01 ∷ 0x00 ∷ 0x00 ∷ 0x00 ∷ 0x00 ∷ 0x00 ∷ 0x00 ∷ []
 
-abbrev pub markedP : List Sample
-markedP =
+abbrev pub shortRuns : List Sample
+shortRuns =
     row (does silent)
     ∷ row (bad (0 ∷ 0 ∷ 0 ∷ 0 ∷ 0 ∷ 0 ∷ 0 ∷ 0 ∷ 0 ∷ []))
     ∷ row (bad (15 ∷ 0 ∷ 0 ∷ 0 ∷ 0 ∷ 0 ∷ 0 ∷ 0 ∷ []))
@@ -302,7 +303,7 @@ checksInOrder =
 -- the longest run last
 unfoldable pub samples : List Group
 samples =
-    after [] markedP
+    after [] shortRuns
     ∷ after nine (afterNine ++ lineMends)
     ∷ after (nine ++ pins 2 1 ++ changesTable 2) sharingMends
     ∷ after (pins 1 0 ++ hides 1 ++ does (write 7 5)) stealthMends

@@ -1,4 +1,4 @@
--- Document 01, "Sizes and state": each size by a name of its own. No other file spells one.
+-- docs/HOST.md, "Sizes and state": each size by a name of its own. No other file spells one.
 -- Assumes nothing.
 use mathlib.Core.Bool.{Bool, _&&_, _||_, not}
 use Prim.Native.Nat.{ℕ, _+_, _*_, _%_, _^_}

@@ -1,4 +1,4 @@
--- Document 01, "Sizes and state": the state as flat lists of numbers, and what is read from it.
+-- docs/HOST.md, "Sizes and state": the state as flat lists of numbers, and what is read from it.
 -- Assumes nothing.
 use mathlib.Core.Bool.{Bool, _&&_}
 use mathlib.Core.List.{List}

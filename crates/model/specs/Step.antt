@@ -1,4 +1,4 @@
--- Document 01, "Records and answers" and "Steps": the refusal, the value and the next state of every action; the answer to any bytes on any state.
+-- docs/HOST.md, "Records and answers" and "Steps": the refusal, the value and the next state of every action; the answer to any bytes on any state.
 -- Assumes nothing.
 use mathlib.Core.Bool.{true, false}
 use mathlib.Core.List.{List, []}

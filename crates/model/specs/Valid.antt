@@ -1,4 +1,4 @@
--- Document 01, "Valid states": a state is valid if its lists have their sizes and the ten rules hold.
+-- docs/HOST.md, "Valid states": a state is valid if its lists have their sizes and the ten rules hold.
 -- Assumes nothing.
 use mathlib.Core.Path.{_≡_}
 use mathlib.Core.Bool.{Bool, _&&_}

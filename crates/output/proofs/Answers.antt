@@ -10,7 +10,8 @@ use Rattle.print.proofs.Answers.{one-page}
 use Rattle.output.specs.Output.{printed}
 use Rattle.output.specs.Promises.{Prints}
 
-pub one-output : (j b d : List ℕ) {n m : ℕ} {c e x y : List ℕ} → Prints j b d n c x → Prints j b d m e y → (n ≡ m) × (c ≡ e) × (x ≡ y)
+pub one-output : (j b d : List ℕ) {n m k l : ℕ} {c e x y : List ℕ} → Prints j b d n k c x → Prints j b d m l e y
+    → (n ≡ m) × (k ≡ l) × (c ≡ e) × (x ≡ y)
 one-output j b d {n} {m} {x = x} {y = y} p q =
     let t = one-page (typedAll (page d 0) (printed (journal fresh j b))) x y n m (p .output) (q .output) in
-    (t .1, p .answers ∙ sym (q .answers), t .0)
+    (t .1, p .status ∙ sym (q .status), p .answers ∙ sym (q .answers), t .0)

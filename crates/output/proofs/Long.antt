@@ -1,4 +1,4 @@
--- An input with more whole records than a journal may have prints the same as its first bytes: both are refused alike.
+-- An input with more whole records than a journal may have prints the same as its first bytes, and ends with the same status: both are refused alike.
 -- Assumes nothing.
 use mathlib.Core.Path.{_≡_, refl, sym, ap, _∙_}
 use mathlib.Core.Bool.{Bool, true, false}
@@ -20,7 +20,7 @@ use Rattle.model.proofs.Journal.{either}
 use Rattle.keeps.proofs.Fresh.{fresh-passes}
 use Rattle.journal.proofs.Header.{header⇔}
 use Rattle.journal.proofs.Limits.{no-journal, too-long}
-use Rattle.output.specs.Output.{refusedLine, printed}
+use Rattle.output.specs.Output.{refusedLine, printed, statusOf}
 
 -- the header and one record more than a journal may have
 abbrev pub enough : ℕ
@@ -60,8 +60,18 @@ module _ (s : State) (j b : List ℕ) (v : valid? s ≡ true) (h : enough ≤ le
       (λ e. absurd (long-refused (hasHeader j) (sym refusal-long ∙ e)))
       (λ n. ap refusedLine refusal-long)
 
+  status-long : statusOf (journal s j b .verdict) ≡ 1
+  status-long =
+      either (λ (a : After). statusOf (a .verdict) ≡ 1) s j b
+      (λ e. absurd (long-refused (hasHeader j) (sym refusal-long ∙ e)))
+      (λ n. refl)
+
 pub cut-alike : (j b : List ℕ) → enough ≤ length j → printed (journal fresh j b) ≡ printed (journal fresh (take enough j) b)
 cut-alike j b h =
     printed-long fresh j b fresh-passes h
     ∙ ap (λ (t : Bool). refusedLine (long-number t)) (sym (cut-header j h))
     ∙ sym (printed-long fresh (take enough j) b fresh-passes (omega (arith, cut-length j h)))
+
+pub cut-status : (j b : List ℕ) → enough ≤ length j → statusOf (journal fresh j b .verdict) ≡ statusOf (journal fresh (take enough j) b .verdict)
+cut-status j b h =
+    status-long fresh j b fresh-passes h ∙ sym (status-long fresh (take enough j) b fresh-passes (omega (arith, cut-length j h)))

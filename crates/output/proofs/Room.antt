@@ -23,7 +23,7 @@ use Rattle.journal.specs.Promises.{verdictTo, verdictFrom, Runs}
 use Rattle.journal.proofs.Reports.{form-fits, verdict-back}
 use Rattle.print.proofs.Typing.{typed-inside}
 use Rattle.print.specs.Text.{page, typedAll}
-use Rattle.output.specs.Output.{linesOf, printed}
+use Rattle.output.specs.Output.{linesOf, printed, statusOf}
 use Rattle.output.specs.Promises.{takenIn, Prints}
 
 module _ (s : State) (j b : List ℕ) where
@@ -51,12 +51,12 @@ module _ (s : State) (j b : List ℕ) where
         omega (arith, room)
 
 -- what was printed lies in the buffer
-pub printed-inside : (j b d : List ℕ) {n : ℕ} {c e : List ℕ} → Prints j b d n c e → n ≤ length e
-printed-inside j b d {n} {c} {e} w = typed-inside d (printed (journal fresh j b)) e n (w .output)
+pub printed-inside : (j b d : List ℕ) {n k : ℕ} {c e : List ℕ} → Prints j b d n k c e → n ≤ length e
+printed-inside j b d {n} {e = e} w = typed-inside d (printed (journal fresh j b)) e n (w .output)
 
-pub prints : (s : State) (j b d : List ℕ) {v : Verdict} {t : State} {c e : List ℕ} {n : ℕ} → s ≡ fresh → Runs s j b v t c
-    → page e n ≡ typedAll (page d 0) (linesOf (verdictFrom v) c) → Prints j b d n c e
-prints s j b d z w f =
+pub prints : (s : State) (j b d : List ℕ) {v : Verdict} {t : State} {c e : List ℕ} {n k : ℕ} → s ≡ fresh → Runs s j b v t c
+    → page e n ≡ typedAll (page d 0) (linesOf (verdictFrom v) c) → k ≡ statusOf (verdictFrom v) → Prints j b d n k c e
+prints s j b d z w f g =
     record {
       answers = w .buffer ∙ ap (λ (x : State). journal x j b .buffer) z;
       output =
@@ -64,4 +64,9 @@ prints s j b d z w f =
           ∙ (λ i. typedAll (page d 0) (linesOf (verdictFrom (w .verdict i)) (w .buffer i)))
           ∙ ap (λ (x : model.Verdict). typedAll (page d 0) (linesOf x (journal s j b .buffer))) (verdict-back (journal s j b .verdict))
           ∙ ap (λ (x : State). typedAll (page d 0) (printed (journal x j b))) z;
+      status =
+          g
+          ∙ ap (λ (x : Verdict). statusOf (verdictFrom x)) (w .verdict)
+          ∙ ap statusOf (verdict-back (journal s j b .verdict))
+          ∙ ap (λ (x : State). statusOf (journal x j b .verdict)) z;
     }

@@ -1,4 +1,4 @@
--- Document 01, "Journal and program": what the program prints, in ASCII.
+-- docs/HOST.md, "Journal and program": what the program prints, in ASCII.
 -- Assumes nothing.
 use mathlib.Core.List.{List, [], _∷_, _++_}
 use Prim.Native.Nat.{ℕ, zero, suc, _+_}
@@ -66,3 +66,8 @@ linesOf (turnedAway n) b = refusedLine n
 -- what is printed of a journal's run
 abbrev pub printed : After → List ℕ
 printed a = linesOf (a .verdict) (a .buffer)
+
+-- the status with which the program ends: 0 where the journal was run, 1 where it was refused
+abbrev pub statusOf : Verdict → ℕ
+statusOf (ran r) = 0
+statusOf (turnedAway n) = 1

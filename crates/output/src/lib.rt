@@ -8,9 +8,19 @@ ghost use lib.ListN.{length};
 ghost use Rattle.model.specs.Sizes.{byteBound, answerBytes};
 ghost use Rattle.model.specs.Records.{wordAt};
 ghost use Rattle.print.specs.Text.{page, typedAll};
-ghost use Rattle.output.specs.Output.{numberThen, recordLine, recordLines, refusedLine, cutLine, doneLine, reportLines, linesOf};
+ghost use Rattle.output.specs.Output.{numberThen, recordLine, recordLines, refusedLine, cutLine, doneLine, reportLines, linesOf, statusOf};
 ghost use Rattle.journal.specs.Promises.{reportFrom, verdictFrom};
 ghost use Rattle.output.specs.Promises.{takenIn, Prints};
+
+// How many bytes were typed, and the status with which a program that prints them ends.
+pub struct Printed {
+    pub bytes: usize,
+    pub status: u8,
+}
+
+const RAN: u8 = 0;
+
+const TURNED_AWAY: u8 = 1;
 
 const ANSWER: usize = steps::ANSWER;
 
@@ -110,19 +120,29 @@ fn report_lines(out: &mut [u8], answers: &[u8], r: Report) -> usize
     done_line(out, c, r.accepted as u64, r.refused as u64)
 }
 
-fn lines_of(out: &mut [u8], answers: &[u8], v: Verdict) -> usize
+fn lines_of(out: &mut [u8], answers: &[u8], v: Verdict) -> Printed
     requires { ⌜ answerBytes * takenIn v ≤ length (now answers) ⌝ }
-    ensures { λ n. ⌜ page (now (out .exit)) n ≡ typedAll (page (now (out .entry)) 0) (linesOf (verdictFrom v) (now (answers .entry))) ⌝ }
+    ensures { λ p. ⌜ page (now (out .exit)) (p .bytes) ≡ typedAll (page (now (out .entry)) 0) (linesOf (verdictFrom v) (now (answers .entry))) ⌝ }
+    ensures { λ p. ⌜ p .status ≡ statusOf (verdictFrom v) ⌝ }
 {
     match v {
-        Verdict::Done(r) => report_lines(out, answers, r),
-        Verdict::Refused(n) => refused_line(out, 0, n as u64),
+        Verdict::Done(r) => {
+            let bytes = report_lines(out, answers, r);
+            Printed { bytes, status: RAN }
+        }
+        Verdict::Refused(n) => {
+            let bytes = refused_line(out, 0, n as u64);
+            Printed {
+                bytes,
+                status: TURNED_AWAY,
+            }
+        }
     }
 }
 
 // The journal on the fresh machine, and what is printed of it.
-pub fn run(j: &[u8], answers: &mut [u8], out: &mut [u8]) -> usize
-    ensures { λ n. ⌜ Prints (now (j .entry)) (now (answers .entry)) (now (out .entry)) n (now (answers .exit)) (now (out .exit)) ⌝ }
+pub fn run(j: &[u8], answers: &mut [u8], out: &mut [u8]) -> Printed
+    ensures { λ p. ⌜ Prints (now (j .entry)) (now (answers .entry)) (now (out .entry)) (p .bytes) (p .status) (now (answers .exit)) (now (out .exit)) ⌝ }
 {
     let mut h: Host = [0; host::SIZE];
     host::fresh(&mut h);

@@ -26,6 +26,6 @@ pub record Performs (s : State) (x : Action) (v : ℕ) (t : State) : Type 0 wher
   pub value : v ≡ answered s x
   pub state : t ≡ performed s x
 
--- document 01's step: any bytes l on any state s
+-- the step: any bytes l on any state s
 abbrev pub Steps : State → List ℕ → Answer → State → Type 0
 Steps s l a t = Gives (step s l) a t

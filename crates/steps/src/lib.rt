@@ -53,7 +53,7 @@ fn judge(h: &mut Host, bytes: &[u8]) -> Answer
     }
 }
 
-// Document 01's step: any bytes on any state.
+// The step: any bytes on any state.
 pub fn step(h: &mut Host, bytes: &[u8]) -> Answer
     ensures { λ r. ⌜ Steps (view (now (h .entry))) (now (bytes .entry)) r (view (now (h .exit))) ⌝ }
 {

@@ -2,7 +2,7 @@
 
 use crate::task::{Task, RULES, VERDICT};
 
-/// Each kind with the numbers that document 01's tables let it get, but for 1.
+/// Each kind with the numbers that the tables of docs/HOST.md let it get, but for 1.
 pub const KINDS: [(&str, &[usize]); 15] = [
     ("silent", &[0, 2]),
     ("read", &[0, 2, 3, 5, 6]),

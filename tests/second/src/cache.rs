@@ -26,7 +26,7 @@ impl State {
         }
     }
 
-    /// Takes out every line of the page (R 17).
+    /// Takes out every line of the page.
     pub fn take_out_page(&mut self, page: Mach) {
         for set in 0..self.cache.len() {
             for way in 0..2 {
@@ -77,7 +77,7 @@ impl State {
         self.tlb[va.home()] = Slot::new(va, page);
     }
 
-    /// The TLB entry for the address goes, if the slot holds that address (R 18).
+    /// The TLB entry for the address goes, if the slot holds that address.
     pub fn forget(&mut self, va: Virt) {
         let slot = &mut self.tlb[va.home()];
         if slot.address == va.byte() {

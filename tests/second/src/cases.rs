@@ -1,4 +1,4 @@
-//! The sample runs of document 01 that are not proved, and the edges of a journal: what the program `cases` prints, from this state and this step.
+//! Runs of the rule book, and the edges of a journal: what the program `cases` prints, from this state and this step.
 
 use crate::{fresh, run_journal, step, State, HEADER};
 

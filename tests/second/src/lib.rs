@@ -1,7 +1,6 @@
-//! A second, independent implementation of the machine of document 01.
+//! A second, independent implementation of the machine of docs/HOST.md.
 //!
-//! Written from the documents alone (01-scope, READINGS, STATE, RULES), for
-//! comparison with another implementation. "(R n)" in a comment names reading n.
+//! Written from the rules, docs/STATE.md and docs/RULES.md alone, for comparison with another implementation.
 
 pub mod bytes;
 pub mod cache;

@@ -97,7 +97,7 @@ impl Call {
 }
 
 impl Action {
-    /// The call that must be pending for this action, if it serves one (R 12).
+    /// The call that must be pending for this action, if it serves one.
     pub fn call_served(self) -> Option<Call> {
         match self {
             Action::New { va, pa } => Some(Call::New { va, pa }),

@@ -33,7 +33,7 @@ pub enum Mode {
 pub struct Page {
     pub owner: Owner,
     pub kind: Kind,
-    /// The cacheable mark; exactly 1 is cacheable (R 5).
+    /// The cacheable mark; exactly 1 is cacheable.
     pub mark: u8,
     pub memory: u32,
     /// The table's entries; a row of empty places where the page is no table.
@@ -90,7 +90,7 @@ pub struct State {
 impl Pending {
     pub const NONE: Pending = Pending { number: 0, a: 0, b: 0 };
 
-    /// A stored call is a number 1 to 5 (R 4).
+    /// A stored call is a number 1 to 5.
     pub fn is_stored(self) -> bool {
         (1..=5).contains(&self.number)
     }
@@ -188,7 +188,7 @@ impl State {
         self.registered(guest, Phys::new(self.guest(guest).current)?)
     }
 
-    /// The active guest's current table; None where it is nowhere (R 3).
+    /// The active guest's current table; None where it is nowhere.
     pub fn table_in_force(&self) -> Option<Mach> {
         let page = self.current_page(GuestId::new(self.active)?)?;
         self.page(page).is_table().then_some(page)

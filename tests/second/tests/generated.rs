@@ -81,7 +81,7 @@ fn reads_give_the_last_write_to_the_page() {
     }
 }
 
-/// All pairs of kind and number that document 01's tables allow, and no others.
+/// All pairs of kind and number that the tables of docs/HOST.md allow, and no others.
 #[test]
 fn near_journals_meet_every_refusal_of_every_kind() {
     let numbers: [&[u8]; 15] = [

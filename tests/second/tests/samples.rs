@@ -1,4 +1,4 @@
-//! The sample runs of document 01, and its program output.
+//! Worked runs, and the program's output.
 
 mod support;
 

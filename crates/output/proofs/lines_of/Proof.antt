@@ -4,7 +4,7 @@ use mathlib.Core.Path.{_≡_, sym, ap, _∙_}
 use native.Mathlib.Omega.{arith}
 use Rattle.journal.specs.declared.Verdict.{Verdict}
 use Rattle.print.specs.Text.{page, typedAll}
-use Rattle.output.specs.Output.{linesOf}
+use Rattle.output.specs.Output.{linesOf, statusOf}
 use Rattle.journal.specs.Promises.{verdictFrom}
 use Rattle.output.specs.Promises.{takenIn}
 use borrow.Author.Needs.{needs}
@@ -37,9 +37,11 @@ returns : tie.Need-returns
 returns c =
     let l = c .before .before in
     let v = l .before .before .before in
-    let a = v .before .before .before .before .args in
-    l .report-lines .ensures
-    ∙ ap (λ (w : Verdict). typedAll (page (a .out .now) 0) (linesOf (verdictFrom w) (a .answers .now))) (sym (v .v .given .1))
+    let a = v .before .before .before .before .args in (
+      l .report-lines .ensures
+          ∙ ap (λ (w : Verdict). typedAll (page (a .out .now) 0) (linesOf (verdictFrom w) (a .answers .now))) (sym (v .v .given .1)),
+      ap (λ (w : Verdict). statusOf (verdictFrom w)) (sym (v .v .given .1)),
+    )
 
 same-length-2 : tie.Need-same-length-2
 same-length-2 c = search needs
@@ -48,9 +50,11 @@ returns-2 : tie.Need-returns-2
 returns-2 c =
     let l = c .before .before in
     let v = l .before .before .before in
-    let a = v .before .before .before .before .args in
-    l .refused-line .ensures
-    ∙ ap (λ (w : Verdict). typedAll (page (a .out .now) 0) (linesOf (verdictFrom w) (a .answers .now))) (sym (v .v2 .given .1))
+    let a = v .before .before .before .before .args in (
+      l .refused-line .ensures
+          ∙ ap (λ (w : Verdict). typedAll (page (a .out .now) 0) (linesOf (verdictFrom w) (a .answers .now))) (sym (v .v2 .given .1)),
+      ap (λ (w : Verdict). statusOf (verdictFrom w)) (sym (v .v2 .given .1)),
+    )
 
 pub lines-of-spec : {M : Type 1} → statement M
 lines-of-spec =

@@ -31,7 +31,7 @@ returns c =
     let r = l .before .before .before .before .before in
     let f = r .before .before .before in
     let a = f .before .before .before .before .before .args in
-    prints (view (f .fresh .last .0)) (a .j .now) (a .answers .now) (a .out .now) (f .fresh .ensures) (r .run .ensures) (l .lines-of .ensures)
+    prints (view (f .fresh .last .0)) (a .j .now) (a .answers .now) (a .out .now) (f .fresh .ensures) (r .run .ensures) (l .lines-of .ensures .0) (l .lines-of .ensures .1)
 
 pub run-spec : {M : Type 1} → statement M
 run-spec =

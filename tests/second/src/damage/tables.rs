@@ -124,7 +124,7 @@ pub fn current_nowhere(s: &mut State, rng: &mut Rng) -> Option<()> {
     Some(())
 }
 
-/// The current address leads to another guest's table: in force all the same (R 3).
+/// The current address leads to another guest's table: in force all the same.
 pub fn current_foreign(s: &mut State, rng: &mut Rng) -> Option<()> {
     let guest = any_guest(rng);
     let table = any_page(s, rng, |page| page.is_table() && page.owner != Owner::Guest(guest))?;

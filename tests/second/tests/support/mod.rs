@@ -91,7 +91,7 @@ impl Machine {
     }
 }
 
-/// The nine records of document 01.
+/// The nine records of docs/HOST.md.
 pub const NINE: &str = "0A01000400000000 0D01000000000000 0C00000000000000 0A00010100000000 \
                         0500010000000000 0C00000000000000 030000002C010000 0100000000000000 \
                         0101000000000000";
