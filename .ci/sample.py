@@ -57,7 +57,31 @@ It unfolds to `Steps` (crates/steps/specs/Promises.antt), `Past` (crates/history
 |---|---|---|---|---|
 | `ration::ration_step` | `host: Answers.one-content` | refuses all | does nothing | |
 """,
-    "include/ration.h": "/* void ration_none(void); */\nvoid ration_step(uint8_t state[4]); /* a step */\n",
+    "docs/HOST.md": """
+| kind | action | a |
+|---|---|---|
+| 0 | silent | |
+| 1 | new_sm | 7 |
+
+| call | asks for |
+|---|---|
+| 0 | `none` |
+
+| number | reason |
+|---|---|
+| 0 | done |
+| 1 | invalid state |
+
+| status | when |
+|---|---|
+| 9 | never |
+""",
+    "include/ration.h": """/* void ration_none(void); RATION_KIND_GONE = 3 */
+enum { RATION_SIZE = 4, RATION_KIND_SILENT = 0, /* nothing */ RATION_KIND_NEW_SM = 1 };
+enum { RATION_CALL_NONE = 0 };
+enum { RATION_DONE = 0, RATION_REFUSED_STATE = 1 };
+void ration_step(uint8_t state[4]); /* a step */
+""",
     "crates/laws/src/lib.rt": "",
     "crates/laws/proofs/Answers.antt": """use mathlib.Core.Path.{_≡_, sym, _∙_}
 

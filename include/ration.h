@@ -1,4 +1,5 @@
-/* The ration host on lent bytes: docs/STATE.md has the layout of a state, crates/ration/src/lib.rt the promises that are proved.
+/* The ration host on lent bytes: its functions, and every number of a record, an answer, a report and a journal. docs/HOST.md has
+ * the rules behind them, docs/STATE.md the layout of a state, crates/ration/src/lib.rt the promises that are proved.
  *
  * The proofs assume of a caller what Rust's references do. For each pointer: it is not null, it stays good for the call, and it
  * leads to exactly as many bytes as its parameter says (a length may be 0, and its pointer is then still not null). No byte that a
@@ -16,14 +17,111 @@
 extern "C" {
 #endif
 
+/* Sizes in bytes, and the places of the bytes. A number of 32 bits stands low byte first. */
 enum {
-    RATION_SIZE = 4754, /* bytes of a state; ration_size() answers it */
-    RATION_ANSWER = 8,  /* bytes of an answer: number, three zeros, value as 32 bits, low byte first */
-    RATION_REPORT = 20  /* bytes of a report: number, taken, accepted, refused, left over, each 32 bits, low byte first */
+    RATION_SIZE = 4754, /* a state; ration_size() answers it */
+
+    RATION_RECORD = 8,       /* a record; bytes that its kind and call do not use are 0 */
+    RATION_RECORD_KIND = 0,  /* RATION_KIND_.. */
+    RATION_RECORD_A = 1,     /* the first argument */
+    RATION_RECORD_B = 2,     /* the second argument */
+    RATION_RECORD_CALL = 3,  /* RATION_CALL_.., of hcall alone */
+    RATION_RECORD_VALUE = 4, /* of write and write_hyper alone, 32 bits */
+
+    RATION_ANSWER = 8,        /* an answer; ration_answer_size() answers it */
+    RATION_ANSWER_NUMBER = 0, /* RATION_DONE or RATION_REFUSED_..; three zeros follow */
+    RATION_ANSWER_VALUE = 4,  /* of a read that was done what it read, else 0; 32 bits */
+
+    RATION_REPORT = 20,           /* a report, five numbers of 32 bits; ration_report_size() answers it */
+    RATION_REPORT_NUMBER = 0,     /* RATION_DONE, or why the journal was refused: then the other four are 0 */
+    RATION_REPORT_TAKEN = 4,      /* records judged */
+    RATION_REPORT_ACCEPTED = 8,   /* those that were done */
+    RATION_REPORT_REFUSED = 12,   /* those that were refused */
+    RATION_REPORT_LEFT_OVER = 16, /* bytes after the last whole record, 0 to 7, which are not run */
+
+    RATION_HEADER = 8,         /* a journal's header, RATION_HEADER_BYTES; its records follow, with nothing between */
+    RATION_RECORD_LIMIT = 4096 /* the most whole records of a journal */
 };
 
-/* The bytes of a state. */
+/* A journal's first bytes: the mark, version 1 as 16 bits, three zeros. memcpy(journal, RATION_HEADER_BYTES, RATION_HEADER) */
+#define RATION_HEADER_BYTES "RPJ\001\000\000\000\000"
+
+/* How many there are of each; each counts from 0. A virtual address (va) is what guests read and write, a physical one (pa) says
+ * which of a guest's own pages is meant. */
+enum {
+    RATION_GUESTS = 4,
+    RATION_PHYSICALS = 16,    /* physical addresses of each guest; the page at 0 is its first table */
+    RATION_VIRTUALS = 64,     /* virtual addresses */
+    RATION_PAGES = 64,        /* machine pages; a fresh machine has 56 free ones */
+    RATION_STEALTH = 7,       /* the virtual address of a guest's stealth page */
+    RATION_FIRST_HOST_VA = 48 /* virtual addresses from here on belong to the host */
+};
+
+/* Whether a virtual address is reserved, so that nothing is mapped there: 15, 23, 31, 39, 47, and 48 to 63. Uses va three times. */
+#define RATION_RESERVED(va) ((va) >= RATION_FIRST_HOST_VA || ((va) % 8 == RATION_STEALTH && (va) != RATION_STEALTH))
+
+/* What a record does (its kind), its arguments, and who must have control: 'running' is the active guest, 'waiting' the host.
+ * 'call new' and the like: the active guest's pending call is that one, with the same arguments; doing it clears the call. */
+enum ration_kind {
+    RATION_KIND_SILENT = 0,      /* nothing; running or waiting */
+    RATION_KIND_READ = 1,        /* answers the value at va a; running */
+    RATION_KIND_READ_HYPER = 2,  /* answers the value at va a of the active guest; waiting */
+    RATION_KIND_WRITE = 3,       /* writes value at va a; running */
+    RATION_KIND_WRITE_HYPER = 4, /* writes value at va a of the active guest; waiting */
+    RATION_KIND_NEW = 5,         /* maps va a to the page at pa b; waiting, call new */
+    RATION_KIND_NEW_SM = 6,      /* maps the stealth address, a = 7, to the page at pa b; waiting, call new */
+    RATION_KIND_DEL = 7,         /* unmaps va a; waiting, call del */
+    RATION_KIND_SWITCH = 8,      /* makes guest a the active one; waiting, and guest a has no pending call */
+    RATION_KIND_LSWITCH = 9,     /* makes the table at pa a the current one; waiting, call lswitch */
+    RATION_KIND_HCALL = 10,      /* stores call with its arguments a and b, and gives control to the host; running */
+    RATION_KIND_RET_CTRL = 11,   /* gives control to the host; running */
+    RATION_KIND_CHMOD = 12,      /* lets the active guest run; waiting, and it has no pending call */
+    RATION_KIND_PIN = 13,        /* gives the guest a free page at pa a, of kind b (RATION_PIN_..); waiting, call pin */
+    RATION_KIND_UNPIN = 14       /* takes back the page at pa a; waiting, call unpin */
+};
+
+/* What hcall asks the host for, with the arguments of the record that does it. */
+enum ration_call {
+    RATION_CALL_NONE = 0,    /* nothing; a and b are 0 */
+    RATION_CALL_NEW = 1,     /* a: va, b: pa; for new, and with va 7 for new_sm */
+    RATION_CALL_DEL = 2,     /* a: va */
+    RATION_CALL_LSWITCH = 3, /* a: pa */
+    RATION_CALL_PIN = 4,     /* a: pa, b: RATION_PIN_.. */
+    RATION_CALL_UNPIN = 5    /* a: pa */
+};
+
+/* The kind of page that a pin asks for. */
+enum ration_pin {
+    RATION_PIN_DATA = 0, /* a page to be mapped, read and written; it holds 0 */
+    RATION_PIN_TABLE = 1 /* a table of the guest's addresses; it is empty */
+};
+
+/* The number of an answer or of a report. Checks run in this order, and the first that applies is the answer. 1 to 12 are a
+ * record's, 1 and 13 to 15 a journal's. A page is shared from when two addresses lead to it at once until it is unpinned. */
+enum ration_number {
+    RATION_DONE = 0,                      /* the record was done, or the journal was run */
+    RATION_REFUSED_STATE = 1,             /* the state is not valid; of a record or of a journal */
+    RATION_REFUSED_RECORD = 2,            /* not 8 bytes, unknown kind or call, argument out of range, unused byte not 0 */
+    RATION_REFUSED_MODE = 3,              /* a guest's action while the host has control, or the host's while a guest runs */
+    RATION_REFUSED_CALL = 4,              /* the pending call is not exactly this one; chmod, switch: the guest still has one */
+    RATION_REFUSED_RESERVED = 5,          /* reads, writes, new, del: the address is reserved; new: or it is 7 */
+    RATION_REFUSED_UNMAPPED = 6,          /* reads, writes: the current table maps nothing there */
+    RATION_REFUSED_UNREGISTERED = 7,      /* new, new_sm, lswitch, unpin: the guest has no page at this pa */
+    RATION_REFUSED_PAGE_KIND = 8,         /* new, new_sm: the page is not data; lswitch: it is no table */
+    RATION_REFUSED_STEALTH_SHARED = 9,    /* new: a table maps 7 to the page; new_sm: one maps another va to it, or it is shared */
+    RATION_REFUSED_PLACE_TAKEN = 10,      /* new_sm: the current table maps 7 already; pin: the guest has a page at this pa */
+    RATION_REFUSED_NO_FREE_PAGE = 11,     /* pin: no page is free */
+    RATION_REFUSED_IN_USE = 12,           /* unpin: the current table, a table with entries, or a page that some table maps */
+    RATION_REFUSED_HEADER = 13,           /* a journal's first 8 bytes are missing or different */
+    RATION_REFUSED_TOO_MANY_RECORDS = 14, /* a journal has more than 4,096 whole records */
+    RATION_REFUSED_ANSWER_BUFFER = 15     /* the answer buffer has less than 8 bytes for each whole record */
+};
+
+/* The bytes of a state, of an answer and of a report, as the archive has them. Where one is not the size above, header and archive
+ * do not belong together, and nothing may be lent to the other functions. */
 size_t ration_size(void);
+size_t ration_answer_size(void);
+size_t ration_report_size(void);
 
 /* Makes the state the fresh machine, whatever its bytes were. */
 void ration_fresh(uint8_t state[RATION_SIZE]);

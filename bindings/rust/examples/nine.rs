@@ -1,38 +1,31 @@
-//! Runs document 01's nine records, first as a journal and then record by record, and prints what the program prints.
+//! Runs the nine records of docs/HOST.md, first as a journal and then action by action, and prints what the program prints.
 
-use ration::{Answer, Host, ANSWER, HEADER, RECORD, SIZE};
+use ration::{journal, Action, Answer, Call, Host, Pa, PinKind, Refusal, Va, ANSWER};
 
-#[rustfmt::skip]
-const JOURNAL: [u8; 80] = [
-    b'R', b'P', b'J', 1, 0, 0, 0, 0,
-    10, 1, 0, 4, 0, 0, 0, 0,    // hcall pin 1 data
-    13, 1, 0, 0, 0, 0, 0, 0,    // pin 1 data
-    12, 0, 0, 0, 0, 0, 0, 0,    // chmod
-    10, 0, 1, 1, 0, 0, 0, 0,    // hcall new 0 1
-    5, 0, 1, 0, 0, 0, 0, 0,     // new 0 1
-    12, 0, 0, 0, 0, 0, 0, 0,    // chmod
-    3, 0, 0, 0, 0x2c, 1, 0, 0,  // write 0, the value 300
-    1, 0, 0, 0, 0, 0, 0, 0,     // read 0
-    1, 1, 0, 0, 0, 0, 0, 0,     // read 1
+const NINE: [Action; 9] = [
+    Action::Hcall(Call::Pin(Pa(1), PinKind::Data)), // guest 0 asks for a data page at physical address 1
+    Action::Pin(Pa(1), PinKind::Data),              // the host gives it one
+    Action::Chmod,                                  // and lets the guest run on
+    Action::Hcall(Call::New(Va(0), Pa(1))),         // it asks for that page at virtual address 0
+    Action::New(Va(0), Pa(1)),
+    Action::Chmod,
+    Action::Write(Va(0), 300),
+    Action::Read(Va(0)),
+    Action::Read(Va(1)), // nothing is mapped there
 ];
 
-fn main() {
-    assert_eq!(ration::size(), SIZE);
+fn main() -> Result<(), Refusal> {
     let mut host = Host::fresh();
-    let mut answers = [0; ANSWER * 9];
-    let report = match host.run(&JOURNAL, &mut answers) {
-        Ok(report) => report,
-        Err(number) => return println!("refused {number}"),
-    };
+    let mut answers = [0; ANSWER * NINE.len()];
+    let report = host.run(&journal(&NINE), &mut answers)?;
     println!("RPJ 1");
     let mut again = Host::fresh();
-    for (i, record) in JOURNAL[HEADER..].chunks_exact(RECORD).enumerate() {
-        let answer = again.step(record);
-        let stored = &answers[ANSWER * i..ANSWER * (i + 1)];
+    for (i, (action, stored)) in NINE.into_iter().zip(answers.chunks_exact(ANSWER)).enumerate() {
+        let answer = again.act(action);
         assert_eq!(answer, Answer::from_bytes(stored.try_into().unwrap()));
         println!("{} {} {}", i + 1, answer.number(), answer.value());
     }
     println!("done {} refused {}", report.accepted, report.refused);
     assert!(host == again && host.valid() && host.free_pages() == 55);
-    assert_eq!(host.run(b"RPJ", &mut []), Err(13));
+    Ok(())
 }

@@ -8,11 +8,11 @@ use report::put_report;
 ghost use mathlib.Core.Path.{_≡_};
 ghost use Rattle.laws.specs.Search.{countBelow};
 ghost use Rattle.laws.specs.Bits.{marks};
-ghost use Rattle.model.specs.Sizes.{pages};
+ghost use Rattle.model.specs.Sizes.{pages, answerBytes};
 ghost use Rattle.model.specs.Fresh.{fresh};
 ghost use Rattle.model.specs.Valid.{valid?};
 ghost use Rattle.host.specs.View.{bytes as stateBytes, view};
-ghost use Rattle.ration.specs.Promises.{StepsBytes, RunsBytes};
+ghost use Rattle.ration.specs.Promises.{reportSize, StepsBytes, RunsBytes};
 
 // The bytes of a state.
 #[no_mangle]
@@ -20,6 +20,22 @@ pub extern "C" fn ration_size() -> usize
     ensures { λ r. ⌜ r ≡ stateBytes ⌝ }
 {
     host::SIZE
+}
+
+// The bytes of an answer.
+#[no_mangle]
+pub extern "C" fn ration_answer_size() -> usize
+    ensures { λ r. ⌜ r ≡ answerBytes ⌝ }
+{
+    steps::ANSWER
+}
+
+// The bytes of a report.
+#[no_mangle]
+pub extern "C" fn ration_report_size() -> usize
+    ensures { λ r. ⌜ r ≡ reportSize ⌝ }
+{
+    REPORT
 }
 
 // The fresh machine, whatever the bytes were.

@@ -1,0 +1,242 @@
+/* Holds every constant of include/ration.h to the machine: each kind is accepted once and each refusal given once, by records that are put
+ * together and answers and reports that are read by the header's places. A line for each difference, and status 1. It is C and C++. */
+#include <stdio.h>
+#include <string.h>
+
+#include "ration.h"
+
+enum { KINDS = RATION_KIND_UNPIN + 1, NUMBERS = RATION_REFUSED_ANSWER_BUFFER + 1, HOST_PAGES = 4 };
+
+static uint8_t state[RATION_SIZE];
+static uint8_t report[RATION_REPORT];
+static uint8_t journal[RATION_HEADER + RATION_RECORD * (RATION_RECORD_LIMIT + 2)];
+static uint8_t answers[RATION_ANSWER * (RATION_RECORD_LIMIT + 1)];
+static bool accepted[KINDS], given[NUMBERS];
+static unsigned compared, differences;
+
+static void same(const char *what, const char *part, uint32_t found, uint32_t expected) {
+    compared++;
+    if (found != expected) {
+        differences++;
+        printf("%s: %s is %u, not %u\n", what, part, (unsigned)found, (unsigned)expected);
+    }
+}
+
+static uint32_t word(const uint8_t *bytes) {
+    return bytes[0] | (uint32_t)bytes[1] << 8 | (uint32_t)bytes[2] << 16 | (uint32_t)bytes[3] << 24;
+}
+
+static void put_record(uint8_t *record, int kind, int a, int b, int call, uint32_t value) {
+    memset(record, 0, RATION_RECORD);
+    record[RATION_RECORD_KIND] = (uint8_t)kind;
+    record[RATION_RECORD_A] = (uint8_t)a;
+    record[RATION_RECORD_B] = (uint8_t)b;
+    record[RATION_RECORD_CALL] = (uint8_t)call;
+    for (int i = 0; i < 4; i++) {
+        record[RATION_RECORD_VALUE + i] = (uint8_t)(value >> 8 * i);
+    }
+}
+
+/* One record on the state: its answer's number and value must be these, and the three bytes between them zeros. */
+static void gives(const char *what, int kind, int a, int b, int call, uint32_t value, int number, uint32_t answered) {
+    uint8_t record[RATION_RECORD], answer[RATION_ANSWER];
+    put_record(record, kind, a, b, call, value);
+    memset(answer, 255, sizeof answer);
+    ration_step(state, record, sizeof record, answer);
+    same(what, "the answer's number", answer[RATION_ANSWER_NUMBER], (uint32_t)number);
+    same(what, "the number with its zeros", word(answer + RATION_ANSWER_NUMBER), (uint32_t)number);
+    same(what, "the answer's value", word(answer + RATION_ANSWER_VALUE), answered);
+    if (answer[RATION_ANSWER_NUMBER] == RATION_DONE && kind < KINDS) {
+        accepted[kind] = true;
+    }
+    if (answer[RATION_ANSWER_NUMBER] < NUMBERS) {
+        given[answer[RATION_ANSWER_NUMBER]] = true;
+    }
+}
+
+#define DOES(kind, a, b) gives(#kind " " #a " " #b, RATION_KIND_##kind, a, b, 0, 0, RATION_DONE, 0)
+#define ASKS(call, a, b) gives("HCALL " #call " " #a " " #b, RATION_KIND_HCALL, a, b, RATION_CALL_##call, 0, RATION_DONE, 0)
+#define READS(kind, va, answered) gives(#kind " " #va, RATION_KIND_##kind, va, 0, 0, 0, RATION_DONE, answered)
+#define WRITES(kind, va, value) gives(#kind " " #va " " #value, RATION_KIND_##kind, va, 0, 0, value, RATION_DONE, 0)
+#define REFUSES(number, kind, a, b) gives(#number " of " #kind " " #a " " #b, RATION_KIND_##kind, a, b, 0, 0, RATION_REFUSED_##number, 0)
+/* a guest asks, and the host does it and lets the guest run on */
+#define SERVES(call, a, b) (ASKS(call, a, b), DOES(call, a, b), DOES(CHMOD, 0, 0))
+
+static void sizes(void) {
+    same("RATION_SIZE", "ration_size()", (uint32_t)ration_size(), RATION_SIZE);
+    same("RATION_ANSWER", "ration_answer_size()", (uint32_t)ration_answer_size(), RATION_ANSWER);
+    same("RATION_REPORT", "ration_report_size()", (uint32_t)ration_report_size(), RATION_REPORT);
+}
+
+static void ranges(void) {
+    ration_fresh(state);
+    same("RATION_PAGES", "a fresh machine's free pages", ration_free_pages(state), RATION_PAGES - RATION_GUESTS - HOST_PAGES);
+    DOES(RET_CTRL, 0, 0);
+    DOES(SWITCH, RATION_GUESTS - 1, 0);
+    REFUSES(RECORD, SWITCH, RATION_GUESTS, 0);
+    REFUSES(CALL, UNPIN, RATION_PHYSICALS - 1, 0);
+    REFUSES(RECORD, UNPIN, RATION_PHYSICALS, 0);
+    REFUSES(RESERVED, READ_HYPER, RATION_VIRTUALS - 1, 0);
+    REFUSES(RECORD, READ_HYPER, RATION_VIRTUALS, 0);
+}
+
+static void reserved_addresses(void) {
+    ration_fresh(state);
+    for (int va = 0; va < RATION_VIRTUALS; va++) {
+        char what[32];
+        snprintf(what, sizeof what, "RATION_RESERVED(%d)", va);
+        gives(what, RATION_KIND_READ, va, 0, 0, 0, RATION_RESERVED(va) ? RATION_REFUSED_RESERVED : RATION_REFUSED_UNMAPPED, 0);
+    }
+    same("RATION_STEALTH", "reserved", RATION_RESERVED(RATION_STEALTH), false);
+    same("RATION_FIRST_HOST_VA", "reserved", RATION_RESERVED(RATION_FIRST_HOST_VA), true);
+    same("RATION_FIRST_HOST_VA", "reserved as 15 is", RATION_FIRST_HOST_VA % 8 == RATION_STEALTH, false);
+}
+
+/* Every kind and every call, on one machine from the fresh one on. Physical 3 has no page, so that a for b is seen. */
+static void kinds(void) {
+    ration_fresh(state);
+    DOES(SILENT, 0, 0);
+    SERVES(PIN, 2, RATION_PIN_DATA);
+    SERVES(NEW, 3, 2);
+    WRITES(WRITE, 3, 0x04030201);
+    READS(READ, 3, 0x04030201);
+    DOES(RET_CTRL, 0, 0);
+    WRITES(WRITE_HYPER, 3, 77);
+    READS(READ_HYPER, 3, 77);
+    DOES(SWITCH, 1, 0);
+    REFUSES(UNMAPPED, READ_HYPER, 3, 0);
+    DOES(SWITCH, 0, 0);
+    DOES(CHMOD, 0, 0);
+    SERVES(DEL, 3, 0);
+    REFUSES(UNMAPPED, READ, 3, 0);
+    SERVES(UNPIN, 2, 0);
+    SERVES(PIN, 1, RATION_PIN_DATA);
+    ASKS(NEW, RATION_STEALTH, 1);
+    REFUSES(RESERVED, NEW, RATION_STEALTH, 1);
+    DOES(NEW_SM, RATION_STEALTH, 1);
+    DOES(CHMOD, 0, 0);
+    WRITES(WRITE, RATION_STEALTH, 9);
+    SERVES(PIN, 4, RATION_PIN_TABLE);
+    SERVES(LSWITCH, 4, 0);
+    REFUSES(UNMAPPED, READ, RATION_STEALTH, 0);
+    SERVES(LSWITCH, 0, 0);
+    READS(READ, RATION_STEALTH, 9);
+    ASKS(NONE, 0, 0);
+    DOES(CHMOD, 0, 0);
+    same("after every kind", "valid", ration_valid(state), true);
+}
+
+/* A record's refusals, in their order, each on a machine of its own. */
+static void refusals(void) {
+    ration_fresh(state);
+    state[0] = 255;
+    REFUSES(STATE, SILENT, 0, 0);
+    ration_fresh(state);
+    REFUSES(RECORD, SILENT, 1, 0);
+    REFUSES(MODE, CHMOD, 0, 0);
+    REFUSES(RESERVED, READ, 47, 0);
+    REFUSES(UNMAPPED, READ, 46, 0);
+    DOES(RET_CTRL, 0, 0);
+    REFUSES(CALL, PIN, 1, RATION_PIN_DATA);
+    ration_fresh(state);
+    ASKS(UNPIN, 1, 0);
+    REFUSES(UNREGISTERED, UNPIN, 1, 0);
+    ration_fresh(state);
+    ASKS(NEW, 0, 0);
+    REFUSES(PAGE_KIND, NEW, 0, 0);
+    ration_fresh(state);
+    ASKS(PIN, 0, RATION_PIN_DATA);
+    REFUSES(PLACE_TAKEN, PIN, 0, RATION_PIN_DATA);
+    ration_fresh(state);
+    ASKS(UNPIN, 0, 0);
+    REFUSES(IN_USE, UNPIN, 0, 0);
+    ration_fresh(state);
+    SERVES(PIN, 1, RATION_PIN_DATA);
+    ASKS(NEW, RATION_STEALTH, 1);
+    DOES(NEW_SM, RATION_STEALTH, 1);
+    DOES(CHMOD, 0, 0);
+    ASKS(NEW, 0, 1);
+    REFUSES(STEALTH_SHARED, NEW, 0, 1);
+}
+
+/* Guest after guest pins at each physical address but its first table's, until no page is free. */
+static void no_free_page(void) {
+    ration_fresh(state);
+    for (int guest = 0; guest < RATION_GUESTS; guest++) {
+        DOES(RET_CTRL, 0, 0);
+        DOES(SWITCH, guest, 0);
+        DOES(CHMOD, 0, 0);
+        for (int pa = 1; pa < RATION_PHYSICALS && ration_free_pages(state) != 0; pa++) {
+            SERVES(PIN, pa, RATION_PIN_DATA);
+        }
+    }
+    ASKS(PIN, RATION_PHYSICALS - 1, RATION_PIN_DATA);
+    REFUSES(NO_FREE_PAGE, PIN, RATION_PHYSICALS - 1, RATION_PIN_DATA);
+}
+
+/* A journal of this many records, silent but for those that the caller put there, and of these bytes left over. */
+static void runs(const char *what, size_t records, size_t left_over, size_t room, int number) {
+    memset(report, 255, sizeof report);
+    ration_run(state, journal, RATION_HEADER + RATION_RECORD * records + left_over, answers, room, report);
+    same(what, "the report's number", word(report + RATION_REPORT_NUMBER), (uint32_t)number);
+    if (word(report + RATION_REPORT_NUMBER) < NUMBERS) {
+        given[word(report + RATION_REPORT_NUMBER)] = true;
+    }
+}
+
+static void reports(void) {
+    ration_fresh(state);
+    memset(journal, 0, sizeof journal);
+    memcpy(journal, RATION_HEADER_BYTES, RATION_HEADER);
+    put_record(journal + RATION_HEADER, RATION_KIND_CHMOD, 0, 0, 0, 0);
+    put_record(journal + RATION_HEADER + 5 * RATION_RECORD, KINDS, 0, 0, 0, 0);
+    runs("a journal of 6 records", 6, 3, sizeof answers, RATION_DONE);
+    same("RATION_REPORT_TAKEN", "the count", word(report + RATION_REPORT_TAKEN), 6);
+    same("RATION_REPORT_ACCEPTED", "the count", word(report + RATION_REPORT_ACCEPTED), 4);
+    same("RATION_REPORT_REFUSED", "the count", word(report + RATION_REPORT_REFUSED), 2);
+    same("RATION_REPORT_LEFT_OVER", "the count", word(report + RATION_REPORT_LEFT_OVER), 3);
+    same("answer 0", "its number", answers[RATION_ANSWER_NUMBER], RATION_REFUSED_MODE);
+    same("answer 1", "its number", answers[RATION_ANSWER + RATION_ANSWER_NUMBER], RATION_DONE);
+    same("answer 5", "its number", answers[5 * RATION_ANSWER + RATION_ANSWER_NUMBER], RATION_REFUSED_RECORD);
+    runs("RATION_RECORD_LIMIT", RATION_RECORD_LIMIT, RATION_RECORD - 1, RATION_ANSWER * RATION_RECORD_LIMIT, RATION_DONE);
+    same("RATION_RECORD_LIMIT", "taken", word(report + RATION_REPORT_TAKEN), RATION_RECORD_LIMIT);
+    runs("TOO_MANY_RECORDS", RATION_RECORD_LIMIT + 1, 0, sizeof answers, RATION_REFUSED_TOO_MANY_RECORDS);
+    same("TOO_MANY_RECORDS", "taken", word(report + RATION_REPORT_TAKEN), 0);
+    runs("ANSWER_BUFFER", 6, 0, 6 * RATION_ANSWER - 1, RATION_REFUSED_ANSWER_BUFFER);
+    runs("a buffer that is enough", 6, 0, 6 * RATION_ANSWER, RATION_DONE);
+    for (size_t i = 0; i < RATION_HEADER; i++) {
+        journal[i] ^= 1;
+        runs("HEADER", 0, 0, 0, RATION_REFUSED_HEADER);
+        journal[i] ^= 1;
+    }
+    state[0] = 255;
+    runs("STATE of a journal", 6, 0, sizeof answers, RATION_REFUSED_STATE);
+}
+
+static void all_met(void) {
+    char what[32];
+    for (int kind = 0; kind < KINDS; kind++) {
+        snprintf(what, sizeof what, "kind %d", kind);
+        same(what, "accepted", accepted[kind], true);
+    }
+    for (int number = 0; number < NUMBERS; number++) {
+        snprintf(what, sizeof what, "number %d", number);
+        same(what, "given", given[number], true);
+    }
+}
+
+int main(void) {
+    sizes();
+    /* bytes of other sizes are not lent */
+    if (differences == 0) {
+        ranges();
+        reserved_addresses();
+        kinds();
+        refusals();
+        no_free_page();
+        reports();
+        all_met();
+    }
+    printf("%u compared, %u differ\n", compared, differences);
+    return differences == 0 ? 0 : 1;
+}
