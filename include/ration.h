@@ -53,7 +53,7 @@ enum {
     RATION_PHYSICALS = 16,    /* physical addresses of each guest; the page at 0 is its first table */
     RATION_VIRTUALS = 64,     /* virtual addresses */
     RATION_PAGES = 64,        /* machine pages; a fresh machine has 56 free ones */
-    RATION_STEALTH = 7,       /* the virtual address of a guest's stealth page */
+    RATION_STEALTH = 7,       /* the virtual address of a table's stealth page */
     RATION_FIRST_HOST_VA = 48 /* virtual addresses from here on belong to the host */
 };
 

@@ -12,7 +12,7 @@ pub const HEADER: usize = 8;
 pub struct Va(pub u8);
 
 impl Va {
-    /// The address of a guest's stealth page.
+    /// The address of a table's stealth page.
     pub const STEALTH: Va = Va(7);
 }
 
