@@ -4,7 +4,7 @@ import sys
 from pathlib import Path
 
 # The repository, or a tree that .ci/tests made.
-ROOT = Path(sys.argv[1]) if len(sys.argv) > 1 else Path(__file__).resolve().parent.parent
+ROOT = next((Path(word) for word in sys.argv[1:] if not str(word).startswith("-")), Path(__file__).resolve().parent.parent)
 complaints = []
 sys.stdout.reconfigure(encoding="utf-8")
 
@@ -25,8 +25,13 @@ def read(path):
     return (ROOT / path).read_text(encoding="utf-8") if (ROOT / path).is_file() else ""
 
 
+def dependencies():
+    """Each crate of crates.txt, with what stands on its line."""
+    return {name: rest.partition("#")[0].split() for name, rest in re.findall(r"^(\w+):(.*)", read("crates.txt"), re.M)}
+
+
 def crates():
-    return re.findall(r"^(\w+):", read("crates.txt"), re.M)
+    return list(dependencies())
 
 
 # ---- comments
@@ -195,6 +200,21 @@ def words(term):
 
 
 USE = re.compile(rf"\buse\s+(?:package\s*\.)?\s*((?:{NAME})(?:\.(?:{NAME}))*)(?:\.\{{([^}}]*)\}}|(\.\*)|\s+as\s+({NAME}))?")
+
+
+# the kit's libraries, which know nothing of this repository
+KIT = ("mathlib", "lib", "native", "denote", "Prim")
+
+
+def placed(path):
+    """The file that a path of the repository leads to, and what it names in the file; a path that leads to none stays."""
+    inside = re.fullmatch(r"Rattle·(\w+?)(?:·(?:specs|proofs))?\.(specs|proofs)\.(.+)", path)
+    parts = inside[3].split(".") if inside else []
+    for last in range(len(parts), 0, -1):
+        file = f"crates/{inside[1]}/{inside[2]}/{'/'.join(parts[:last])}.antt"
+        if (ROOT / file).is_file():
+            return file, ".".join(parts[last:])
+    return path, ""
 
 
 def home(path):

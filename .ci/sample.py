@@ -7,9 +7,48 @@ One theorem, `one-step` of crates/steps/proofs/Answers.antt, whole:
     pub one-step : (s : State) (l : List ℕ) {a b : ℕ} {x y : List ℕ} → Whole x → Whole y → Steps s l a (view x) → Steps s l b (view y)
         → (a ≡ b) × (x ≡ y)
 
-It unfolds to `Steps` (crates/steps/specs/Promises.antt), `Past` (crates/history/specs/Past.antt); and of `model`: `State`, `sized`.
+It unfolds to 4 definitions, and `Steps` to 4 more. There are `Steps` (crates/steps/specs/Promises.antt) and `Past` (crates/history/specs/Past.antt).
 """,
-    "docs/ARCHITECTURE.md": "| what | theorem |\n|---|---|\n| one answer | `laws: Answers.one-answer`, `host: Sections.inside` |\n",
+    "docs/GUARANTEE.md": """
+The same, `one-step` of crates/steps/proofs/Answers.antt, whole:
+
+    pub one-step : (s : State) (l : List ℕ) {a b : ℕ} {x y : List ℕ} → Whole x → Whole y → Steps s l a (view x) → Steps s l b (view y)
+        → (a ≡ b) × (x ≡ y)
+
+| record | field | what it says |
+|---|---|---|
+| `Steps` | `page` | a page |
+| `Steps` | `answer` | the answer |
+
+| file | reached without going through `Steps` |
+|---|---|
+| crates/steps/specs/Promises.antt | `Steps` |
+| crates/host/specs/View.antt | `Whole`, `view` |
+| crates/model/specs/State.antt | `State` |
+
+| file | reached through `Steps` alone |
+|---|---|
+| crates/host/src/lib.rt | `Ma` |
+| crates/model/specs/State.antt | `Size`, `sizeOf`, `sized` |
+""",
+    "docs/ARCHITECTURE.md": """
+## Crates
+
+    laws <- model <- history, host
+    host <- steps <- ration, rpj
+
+| crate | what it has |
+|---|---|
+| `laws`, `model`, `history` | words |
+| `host` | bytes |
+| `steps`, `ration`, `rpj` | steps |
+
+## Theorems
+
+| what | theorem |
+|---|---|
+| one answer | `laws: Answers.one-answer`, `host: Sections.inside` |
+""",
     "docs/RULES.md": "## Edits that break a rule\n\n1 `a_rule_left_out`.\n",
     "docs/ANSWERS.md": """
 | reading | theorem |
@@ -92,7 +131,25 @@ one-answer a x y e f = e ∙ sym f
     "crates/model/src/lib.rt": "",
     "crates/model/specs/Sizes.antt": "use Prim.Native.Nat.{ℕ}\nuse lib.Dec.{eqb}\nabbrev pub pages : ℕ\npages = 64\n",
     "crates/model/specs/Names.antt": "use Prim.Native.Nat.{ℕ}\nabbrev pub kindNone : ℕ\nkindNone = 0\n",
-    "crates/model/specs/State.antt": "pub record State : Type 0 where\n  pub owner : ℕ\n\nabbrev pub sized : State → ℕ\nsized s = 4\n",
+    "crates/model/specs/State.antt": """use Prim.Native.Nat.{ℕ}
+
+pub record State : Type 0 where
+  pub owner : ℕ
+
+pub data Size : Type 0 where
+  small : Size
+
+abbrev pub sizeOf : Size → ℕ
+sizeOf small = 4
+
+abbrev pub sized : State → ℕ
+sized s =
+    let owner = s .owner in
+    elim owner [
+      | 0 ↦ sizeOf small
+      | n ↦ (λ n. n) n
+    ]
+""",
     "crates/model/specs/Records.antt": "use mathlib.Core.Option.{Option}\nuse mathlib.Core.Path.{_≡_}\nuse Rattle.model.specs.Sizes.{pages}\npub data Action : Type 0 where\n  silent : Action\n",
     "crates/model/specs/Shadow.antt": "use Rattle.model.specs.State.{State as Other}\npub record Hidden : Type 0 where\n  pub all : Other\n",
     "crates/model/must-fail/a_size_less.edit": "",
@@ -109,7 +166,18 @@ use Rattle.model.specs.Records as records
 abbrev pub Past : Type 0
 Past = List Action
 """,
-    "crates/host/specs/View.antt": "abbrev pub Whole : List ℕ → Type 0\nWhole l = length l ≡ 4\n\nunfoldable pub view : List ℕ → State\nview l = l\n",
+    "crates/host/specs/View.antt": """use mathlib.Core.Path.{_≡_}
+use mathlib.Core.List.{List}
+use Prim.Native.Nat.{ℕ}
+use lib.ListN.{length}
+use Rattle.model.specs.State.{State}
+
+abbrev pub Whole : List ℕ → Type 0
+Whole l = length l ≡ 4
+
+unfoldable pub view : List ℕ → State
+view l = record { owner = length l }
+""",
     "crates/host/proofs/Sections.antt": "module _ (s : State) where\n  pub inside : s ≡ s\n  inside = refl\n\npub record Fields : Type 0 where\n  pub field : ℕ\n",
     "crates/host/proofs/Answers.antt": """use mathlib.Core.Path.{_≡_, sym, _∙_}
 use Rattle.host.specs.View.{view, Whole}
@@ -182,8 +250,22 @@ pub fn set_owner(h: &mut Host, p: Ma, v: u8)
     super::whole(h);
 }
 """,
-    "crates/steps/specs/Promises.antt": "pub record Steps (s : State) (l : List ℕ) (a : ℕ) (t : State) : Type 0 where\n  pub answer : a ≡ s\n",
-    "crates/steps/proofs/Answers.antt": """use Rattle.host.specs.View.{view, Whole}
+    "crates/steps/specs/Promises.antt": """use mathlib.Core.Path.{_≡_}
+use mathlib.Core.List.{List}
+use Prim.Native.Nat.{ℕ}
+use Rattle.model.specs.State.{State}
+use Rattle.model.specs.State as model
+use Rattle.host.specs.declared.Ma.{Ma}
+
+pub record Steps (s : State) (l : List ℕ) (a : ℕ) (t : State) : Type 0 where
+  pub page : Ma
+  pub answer : a ≡ model.sized s
+""",
+    "crates/steps/proofs/Answers.antt": """use mathlib.Core.Path.{_≡_}
+use mathlib.Core.List.{List}
+use Prim.Native.Nat.{ℕ}
+use Rattle.model.specs.State.{State}
+use Rattle.host.specs.View.{view, Whole}
 use Rattle.steps.specs.Promises.{Steps}
 
 pub one-step : (s : State) (l : List ℕ) {a b : ℕ} {x y : List ℕ} → Whole x → Whole y → Steps s l a (view x) → Steps s l b (view y)
