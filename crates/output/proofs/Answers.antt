@@ -8,10 +8,11 @@ use Rattle.model.specs.Journal.{journal}
 use Rattle.print.specs.Text.{page, typedAll}
 use Rattle.print.proofs.Answers.{one-page}
 use Rattle.output.specs.Output.{printed}
+use Rattle.output.specs.declared.Printed.{Printed}
 use Rattle.output.specs.Promises.{Prints}
 
-pub one-output : (j b d : List ℕ) {n m k l : ℕ} {c e x y : List ℕ} → Prints j b d n k c x → Prints j b d m l e y
-    → (n ≡ m) × (k ≡ l) × (c ≡ e) × (x ≡ y)
+pub one-output : (j b d : List ℕ) {n m : Printed} {c e x y : List ℕ} → Prints j b d n c x → Prints j b d m e y → (n ≡ m) × (c ≡ e) × (x ≡ y)
 one-output j b d {n} {m} {x = x} {y = y} p q =
-    let t = one-page (typedAll (page d 0) (printed (journal fresh j b))) x y n m (p .output) (q .output) in
-    (t .1, p .status ∙ sym (q .status), p .answers ∙ sym (q .answers), t .0)
+    let t = one-page (typedAll (page d 0) (printed (journal fresh j b))) x y (n .bytes) (m .bytes) (p .output) (q .output) in
+    let s = p .status ∙ sym (q .status) in
+    ((λ i. record { bytes = t .1 i; status = s i }), p .answers ∙ sym (q .answers), t .0)

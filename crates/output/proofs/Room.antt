@@ -24,6 +24,7 @@ use Rattle.journal.proofs.Reports.{form-fits, verdict-back}
 use Rattle.print.proofs.Typing.{typed-inside}
 use Rattle.print.specs.Text.{page, typedAll}
 use Rattle.output.specs.Output.{linesOf, printed, statusOf}
+use Rattle.output.specs.declared.Printed.{Printed}
 use Rattle.output.specs.Promises.{takenIn, Prints}
 
 module _ (s : State) (j b : List ℕ) where
@@ -51,11 +52,11 @@ module _ (s : State) (j b : List ℕ) where
         omega (arith, room)
 
 -- what was printed lies in the buffer
-pub printed-inside : (j b d : List ℕ) {n k : ℕ} {c e : List ℕ} → Prints j b d n k c e → n ≤ length e
-printed-inside j b d {n} {e = e} w = typed-inside d (printed (journal fresh j b)) e n (w .output)
+pub printed-inside : (j b d : List ℕ) {p : Printed} {c e : List ℕ} → Prints j b d p c e → p .bytes ≤ length e
+printed-inside j b d {p} {e = e} w = typed-inside d (printed (journal fresh j b)) e (p .bytes) (w .output)
 
-pub prints : (s : State) (j b d : List ℕ) {v : Verdict} {t : State} {c e : List ℕ} {n k : ℕ} → s ≡ fresh → Runs s j b v t c
-    → page e n ≡ typedAll (page d 0) (linesOf (verdictFrom v) c) → k ≡ statusOf (verdictFrom v) → Prints j b d n k c e
+pub prints : (s : State) (j b d : List ℕ) {v : Verdict} {t : State} {c e : List ℕ} {p : Printed} → s ≡ fresh → Runs s j b v t c
+    → page e (p .bytes) ≡ typedAll (page d 0) (linesOf (verdictFrom v) c) → p .status ≡ statusOf (verdictFrom v) → Prints j b d p c e
 prints s j b d z w f g =
     record {
       answers = w .buffer ∙ ap (λ (x : State). journal x j b .buffer) z;

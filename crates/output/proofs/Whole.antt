@@ -21,6 +21,7 @@ use Rattle.print.specs.Text.{Page, page, typedAll, decimalOf}
 use Rattle.print.proofs.Typing.{typed-fits}
 use Rattle.print.proofs.Decimal.{length-decimal}
 use Rattle.output.specs.Output.{titleLine, refusedWord, doneWord, cutWord, numberThen, space, lineEnd, recordLine, recordLines, refusedLine, cutLine, doneLine, reportLines, printed}
+use Rattle.output.specs.declared.Printed.{Printed}
 use Rattle.output.specs.Promises.{Prints}
 use Rattle.output.proofs.Room.{form-passes}
 
@@ -90,7 +91,7 @@ whole-text d xs n e m h f =
     (ap (λ (p : Page). p .place) q, ap (λ (p : Page). p .bytes) q)
 
 -- The output buffer starts with all that is printed, and its rest stays. That the answers are bytes is what their type says.
-pub printed-whole : (j b d : List ℕ) {n k : ℕ} {c e : List ℕ} → Prints j b d n k c e → Small c → outputBytes ≤ length d
-    → (n ≡ length (printed (journal fresh j b))) × (e ≡ printed (journal fresh j b) ++ drop (length (printed (journal fresh j b))) d)
-printed-whole j b d {n} {c} {e} w s h =
-    whole-text d (printed (journal fresh j b)) n e (printed-most fresh j b (subst Small (w .answers) s)) h (w .output)
+pub printed-whole : (j b d : List ℕ) {p : Printed} {c e : List ℕ} → Prints j b d p c e → Small c → outputBytes ≤ length d
+    → (p .bytes ≡ length (printed (journal fresh j b))) × (e ≡ printed (journal fresh j b) ++ drop (length (printed (journal fresh j b))) d)
+printed-whole j b d {p} {c} {e} w s h =
+    whole-text d (printed (journal fresh j b)) (p .bytes) e (printed-most fresh j b (subst Small (w .answers) s)) h (w .output)

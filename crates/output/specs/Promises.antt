@@ -8,6 +8,7 @@ use Rattle.model.specs.Journal.{journal}
 use Rattle.journal.specs.declared.Verdict.{Verdict}
 use Rattle.journal.specs.declared.Verdict.the-variants.{Done, Refused}
 use Rattle.print.specs.Text.{page, typedAll}
+use Rattle.output.specs.declared.Printed.{Printed}
 use Rattle.output.specs.Output.{printed, statusOf}
 
 -- the records whose answers are printed
@@ -15,9 +16,9 @@ abbrev pub takenIn : Verdict → ℕ
 takenIn (Done r) = r .taken
 takenIn (Refused n) = 0
 
--- the journal j is run on the fresh machine, with the answer buffer b, and printed to d: c and e are the buffers after it, n the bytes printed,
--- k the program's status
-pub record Prints (j b d : List ℕ) (n k : ℕ) (c e : List ℕ) : Type 0 where
+-- the journal j is run on the fresh machine, with the answer buffer b, and printed to d: c and e are the buffers after it, p says how many bytes were
+-- printed and the program's status
+pub record Prints (j b d : List ℕ) (p : Printed) (c e : List ℕ) : Type 0 where
   pub answers : c ≡ journal fresh j b .buffer
-  pub output : page e n ≡ typedAll (page d 0) (printed (journal fresh j b))
-  pub status : k ≡ statusOf (journal fresh j b .verdict)
+  pub output : page e (p .bytes) ≡ typedAll (page d 0) (printed (journal fresh j b))
+  pub status : p .status ≡ statusOf (journal fresh j b .verdict)

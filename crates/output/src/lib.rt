@@ -142,7 +142,7 @@ fn lines_of(out: &mut [u8], answers: &[u8], v: Verdict) -> Printed
 
 // The journal on the fresh machine, and what is printed of it.
 pub fn run(j: &[u8], answers: &mut [u8], out: &mut [u8]) -> Printed
-    ensures { λ p. ⌜ Prints (now (j .entry)) (now (answers .entry)) (now (out .entry)) (p .bytes) (p .status) (now (answers .exit)) (now (out .exit)) ⌝ }
+    ensures { λ p. ⌜ Prints (now (j .entry)) (now (answers .entry)) (now (out .entry)) p (now (answers .exit)) (now (out .exit)) ⌝ }
 {
     let mut h: Host = [0; host::SIZE];
     host::fresh(&mut h);
