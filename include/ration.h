@@ -1,5 +1,6 @@
 /* The ration host on lent bytes: its functions, and every number of a record, an answer, a report and a journal. docs/HOST.md has
  * the rules behind them, docs/STATE.md the layout of a state, crates/ration/src/lib.rt the promises that are proved.
+ * `tools/archive DIR` writes DIR/libration.a, for `cc -Iinclude program.c DIR/libration.a`.
  *
  * The proofs assume of a caller what Rust's references do. For each pointer: it is not null, it stays good for the call, and it
  * leads to exactly as many bytes as its parameter says (a length may be 0, and its pointer is then still not null). No byte that a
