@@ -38,7 +38,7 @@ The same, `one-step` of crates/steps/proofs/Answers.antt, whole:
 
 | file | reached through `Steps` alone |
 |---|---|
-| crates/host/src/lib.rt | `Ma` |
+| crates/host/src/lib.rt | `Cursor` |
 | crates/model/specs/State.antt | `Size`, `sizeOf`, `sized` |
 """,
     "docs/ARCHITECTURE.md": """
@@ -305,11 +305,11 @@ use mathlib.Core.List.{List}
 use Prim.Native.Nat.{ℕ}
 use Rattle.model.specs.State.{State}
 use Rattle.model.specs.State as model
-use Rattle.host.specs.declared.Ma.{Ma}
+use Rattle.host.specs.declared.Cursor.{Cursor}
 
 pub record Steps (s : State) (l : List ℕ) (a : ℕ) (t : State) : Type 0 where
-  pub page : Ma
-  pub answer : a ≡ model.sized s
+  pub page : Cursor
+  pub answer : a ≡ model.sized s (page .left)
 """,
     "crates/steps/proofs/Answers.antt": """use mathlib.Core.Path.{_≡_}
 use mathlib.Core.List.{List}

@@ -39,6 +39,8 @@ def nested(text, where):
             stack[-1].append(inner)
         else:
             stack[-1].append(word)
+    if len(stack) > 1:
+        complain(f"{where}: a {stack[-1].sign} that nothing closes")
     return stack[0]
 
 
@@ -237,7 +239,7 @@ class File:
         for block in blocks(antt(path)):
             words = nested(block, path)
             marks = [word for word in words[:3] if isinstance(word, str) and word in MARKS]
-            last = self.block(words[len(marks) :], block, "pub" in marks, last)
+            last = self.block(words[len(marks) :], block, "pub" in marks, last) if words else None
         for name in (*self.declared, *self.constructors, *self.items):
             for part in spelled([name]) - {name}:
                 self.operators.setdefault(part, []).append(name)
