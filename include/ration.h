@@ -4,7 +4,8 @@
  *
  * The proofs assume of a caller what Rust's references do. For each pointer: it is not null, it stays good for the call, and it
  * leads to exactly as many bytes as its parameter says (a length may be 0, and its pointer is then still not null). No byte that a
- * function writes (a parameter without const) is part of another parameter, or used by another thread during the call. Nothing is
+ * function writes (a parameter without const) is part of another parameter, or used by another thread during the call, and no byte
+ * that it reads changes meanwhile. Nothing is
  * assumed of the bytes themselves: any 4,754 bytes are a state, any bytes a record or a journal, and each has its answer.
  * No function keeps a pointer, allocates or fails. */
 #ifndef RATION_H
@@ -51,7 +52,7 @@ enum {
  * which of a guest's own pages is meant. */
 enum {
     RATION_GUESTS = 4,
-    RATION_PHYSICALS = 16,    /* physical addresses of each guest; the page at 0 is its first table */
+    RATION_PHYSICALS = 16,    /* physical addresses of each guest; on a fresh machine the page at 0 is its table */
     RATION_VIRTUALS = 64,     /* virtual addresses */
     RATION_PAGES = 64,        /* machine pages; a fresh machine has 56 free ones */
     RATION_STEALTH = 7,       /* the virtual address of a table's stealth page */

@@ -36,13 +36,13 @@ pub record Maps (kind entry : List ℕ) (m va p : ℕ) : Type 0 where
   pub isTable : at kind m ≡ kindTable
   pub holds : at entry (addresses * m + va) ≡ suc p
 
--- 1. A running guest has no pending call; a stored call has arguments in range, unused ones zero.
+-- 1. While a guest runs, it has no pending call. A pending call's arguments are in the range of that call, and 0 where the call does not use them.
 pub record Rule1 (call callA callB : List ℕ) (active mode : ℕ) : Type 0 where
   pub idle : active < guests → mode ≡ running → Stored (at call active) → ⊥
   pub fits : (g : ℕ) → g < guests → Stored (at call g) → Fits (at call g) (at callA g) (at callB g)
 
--- 2. Pages 4 to 7, and only they, are the host's: data, cacheable, value 0. A page without owner has kind none, value 0, is cacheable; the
--- map marks exactly these. Guests' pages are data or table. Tables have value 0 and are cacheable.
+-- 2. Pages 4 to 7 are the host's, and no others; they are data and cacheable, with value 0. A page without owner is of kind none and cacheable,
+-- with value 0, and the map marks these pages and no others. A guest's page is data or a table. A table is cacheable, with value 0.
 pub record Rule2 (owner kind cacheable memory : List ℕ) (free : ℕ) : Type 0 where
   pub hosts : (p : ℕ) → p < pages → ((firstHostPage ≤ p) × (p < firstFreePage)) ↔ (at owner p ≡ ownerHost)
   pub host : (p : ℕ) → p < pages → at owner p ≡ ownerHost → (at kind p ≡ kindData) × (at cacheable p ≡ 1) × (at memory p ≡ 0)
@@ -51,14 +51,15 @@ pub record Rule2 (owner kind cacheable memory : List ℕ) (free : ℕ) : Type 0 
   pub guest : (g p : ℕ) → g < guests → p < pages → at owner p ≡ ownerGuest g → (at kind p ≡ kindData) ⊎ (at kind p ≡ kindTable)
   pub tables : (p : ℕ) → p < pages → at kind p ≡ kindTable → (at cacheable p ≡ 1) × (at memory p ≡ 0)
 
--- 3. Each guest's physical addresses lead to different pages, all its own; each of its pages is reached.
+-- 3. The physical addresses of a guest that are not empty lead to different pages, each owned by that guest, and each page that a guest owns is
+-- reached by one of them.
 pub record Rule3 (owner physical : List ℕ) : Type 0 where
   pub own : (g pa p : ℕ) → g < guests → pa < physicals → at physical (physicals * g + pa) ≡ suc p → (p < pages) × (at owner p ≡ ownerGuest g)
   pub different : (g pa pb p : ℕ) → g < guests → pa < physicals → pb < physicals → at physical (physicals * g + pa) ≡ suc p
       → at physical (physicals * g + pb) ≡ suc p → pa ≡ pb
   pub reached : (g p : ℕ) → g < guests → p < pages → at owner p ≡ ownerGuest g → (pa : ℕ) × (pa < physicals) × (at physical (physicals * g + pa) ≡ suc p)
 
--- 4. Only tables hold entries; an entry is at an address not reserved and leads to a data page of the same owner.
+-- 4. Only tables have entries. An entry is at an address that is not reserved, and leads to a data page with the same owner as the table.
 pub record Entry (owner kind : List ℕ) (m va p : ℕ) : Type 0 where
   pub inTable : at kind m ≡ kindTable
   pub allowed : reserved va ≡ false
@@ -70,7 +71,7 @@ pub record Entry (owner kind : List ℕ) (m va p : ℕ) : Type 0 where
 pub record Rule4 (owner kind entry : List ℕ) : Type 0 where
   pub entries : (m va p : ℕ) → m < pages → va < addresses → at entry (addresses * m + va) ≡ suc p → Entry owner kind m va p
 
--- 5. Each current table is a registered table of its guest.
+-- 5. Each guest's current table is registered at the physical address that names it, is a table, and is owned by that guest.
 pub record Registered (owner kind physical : List ℕ) (g pa m : ℕ) : Type 0 where
   pub page : m < pages
   pub registered : at physical (physicals * g + pa) ≡ suc m
@@ -81,12 +82,14 @@ pub record Rule5 (owner kind physical current : List ℕ) : Type 0 where
   pub inRange : (g : ℕ) → g < guests → at current g < physicals
   pub currents : (g : ℕ) → g < guests → (m : ℕ) × Registered owner kind physical g (at current g) m
 
--- 6. A data page mapped at two different addresses, in any tables, is not cacheable. A page mapped at 7 is cacheable.
+-- 6. A data page that is mapped at two different addresses, by one table or by several, is not cacheable. A page that a table maps at 7 is
+-- cacheable.
 pub record Rule6 (kind cacheable entry : List ℕ) : Type 0 where
   pub shared : (p m n va vb : ℕ) → p < pages → at kind p ≡ kindData → Maps kind entry m va p → Maps kind entry n vb p → va ≢ vb → at cacheable p ≢ 1
   pub stealthy : (p m : ℕ) → p < pages → Maps kind entry m stealth p → at cacheable p ≡ 1
 
--- 7. A cache line lies in its address's set; its page is cacheable data and some table maps its address to it. No key stands twice.
+-- 7. A line lies in the set of its address. Its page is data and cacheable, and some table maps the line's address to it. No key stands twice in
+-- the cache.
 pub record Line (kind cacheable entry : List ℕ) (i va p : ℕ) : Type 0 where
   pub address : va < addresses
   pub inSet : setOf va ≡ i / ways
@@ -99,7 +102,8 @@ pub record Rule7 (kind cacheable entry lineAddress linePage : List ℕ) : Type 0
   pub line : (i p : ℕ) → i < lines → at linePage i ≡ suc p → Line kind cacheable entry i (at lineAddress i) p
   pub once : (i j p : ℕ) → i < lines → j < lines → at linePage i ≡ suc p → at linePage j ≡ suc p → at lineAddress i ≡ at lineAddress j → i ≡ j
 
--- 8. A TLB entry lies in its slot and agrees with the active guest's current table, m.
+-- 8. A TLB entry lies in the slot of its address, and the table in force maps that address to the entry's page.
+-- Here and in 9 that table is m.
 pub record Agrees (entry : List ℕ) (m i va p : ℕ) : Type 0 where
   pub address : va < addresses
   pub inSlot : slotOf va ≡ i
@@ -110,7 +114,8 @@ pub record Agrees (entry : List ℕ) (m i va p : ℕ) : Type 0 where
 pub record Rule8 (entry slotAddress slotPage : List ℕ) (m : ℕ) : Type 0 where
   pub agrees : (i p : ℕ) → i < slots → at slotPage i ≡ suc p → Agrees entry m i (at slotAddress i) p
 
--- 9. If that table maps 7 to a page, set 7 holds that line in way 0 and nothing else; if not, set 7 is empty. Its history is 0.
+-- 9. If the table in force maps 7 to a page, way 0 of set 7 holds the line of 7 and that page, and the rest of the set is empty. If it does not,
+-- set 7 is empty. The history of set 7 is 0.
 pub record Leads (entry : List ℕ) (m va p : ℕ) : Type 0 where
   pub page : p < pages
   pub inForce : m < pages
@@ -122,7 +127,8 @@ pub record Rule9 (entry lineAddress linePage history : List ℕ) (m : ℕ) : Typ
   pub alone : (w : ℕ) → 1 ≤ w → w < ways → at linePage (lineAt stealthSet w) ≡ 0
   pub begun : at history stealthSet ≡ start
 
--- 10. Every number is in its range; empty places hold zeros.
+-- 10. Every number is in its range, and an empty place holds zeros: a physical address that is not registered, a place without an entry, an empty
+-- way with its address and value, an empty slot with its address, and each argument that a guest's call does not use, both where it has no call.
 abbrev pub Below : List ℕ → ℕ → ℕ → Type 0
 Below l n b = (i : ℕ) → i < n → at l i < b
 

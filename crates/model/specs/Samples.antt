@@ -259,6 +259,8 @@ tableMends =
     ending (gets 6 (read 7)) (noLineAt stealthLine)
     ∷ row (pins 3 0 ++ hides 3 ++ does (write 7 9) ++ changesTable 0 ++ yields 7 5 ++ changesTable 2 ++ yields 7 9)
     ∷ row (does (hcall callNew 0 1) ++ gets 9 (new 0 1))
+    -- new_sm takes a page that another table has at 7: one page, whichever table is in force
+    ∷ row (hides 1 ++ yields 7 5 ++ does (write 7 6) ++ changesTable 0 ++ yields 7 6)
     ∷ []
 
 -- ---- further rows from the fresh machine: bytes that are no record, checks in their order, each number given

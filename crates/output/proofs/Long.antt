@@ -60,9 +60,9 @@ module _ (s : State) (j b : List ℕ) (v : valid? s ≡ true) (h : enough ≤ le
       (λ e. absurd (long-refused (hasHeader j) (sym refusal-long ∙ e)))
       (λ n. ap refusedLine refusal-long)
 
-  status-long : statusOf (journal s j b .verdict) ≡ 1
+  status-long : statusOf (journal s j b .verdict) ≡ 49
   status-long =
-      either (λ (a : After). statusOf (a .verdict) ≡ 1) s j b
+      either (λ (a : After). statusOf (a .verdict) ≡ 49) s j b
       (λ e. absurd (long-refused (hasHeader j) (sym refusal-long ∙ e)))
       (λ n. refl)
 

@@ -67,7 +67,7 @@ linesOf (turnedAway n) b = refusedLine n
 abbrev pub printed : After → List ℕ
 printed a = linesOf (a .verdict) (a .buffer)
 
--- the status with which the program ends: 0 where the journal was run, 1 where it was refused
+-- the status with which the program ends, as a digit in ASCII: 0 where the journal was run, 1 where it was refused
 abbrev pub statusOf : Verdict → ℕ
-statusOf (ran r) = 0
-statusOf (turnedAway n) = 1
+statusOf (ran r) = 48
+statusOf (turnedAway n) = 49

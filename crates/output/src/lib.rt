@@ -12,15 +12,15 @@ ghost use Rattle.output.specs.Output.{numberThen, recordLine, recordLine
 ghost use Rattle.journal.specs.Promises.{reportFrom, verdictFrom};
 ghost use Rattle.output.specs.Promises.{takenIn, Prints};
 
-// How many bytes were typed, and the status with which a program that prints them ends.
+// How many bytes were typed, and the status with which a program that prints them ends, as a digit.
 pub struct Printed {
     pub bytes: usize,
     pub status: u8,
 }
 
-const RAN: u8 = 0;
+const RAN: u8 = b'0';
 
-const TURNED_AWAY: u8 = 1;
+const TURNED_AWAY: u8 = b'1';
 
 const ANSWER: usize = steps::ANSWER;
 

@@ -1,8 +1,12 @@
-// The program: a journal from standard input on the fresh machine, its output to standard output. All that decides is in `output` and below.
-// A Rattle program has no exit status, so it says the status of docs/HOST.md, "Journal and program", on a descriptor of its own, which ./rpj reads.
+// The program: a journal from standard input on the fresh machine, its output to standard output. No contract says what is read or written, so this
+// file is to be read: it hands what it read to `output::run`, and writes the text and says the status that this answers. A Rattle program has no exit
+// status; it says that of docs/HOST.md, "Journal and program", on a descriptor of its own, which ./rpj reads.
 use libc::STDERR_FILENO;
 use libc::STDIN_FILENO;
 use libc::STDOUT_FILENO;
+ghost use mathlib.Core.Path.{_≡_};
+ghost use Prim.Native.Nat.{min};
+ghost use lib.ListN.{length};
 ghost use Rattle.io.specs.Counts.{Counts};
 
 const STATUS_FILENO: i32 = 3;
@@ -37,18 +41,18 @@ fn read_all(fd: i32, buf: &mut [u8]) -> usize {
 // n, but no more than there are bytes in buf.
 fn at_most(n: usize, buf: &[u8]) -> usize
     ensures { λ r. ⌜ Counts r (now (buf .entry)) ⌝ }
+    ensures { λ r. ⌜ r ≡ min n (length (now (buf .entry))) ⌝ }
 {
     if n < buf.len() { n } else { buf.len() }
 }
 
 fn say(status: u8) {
-    let digit = if status == 0 { b'0' } else { b'1' };
-    io::write_all(STATUS_FILENO, &[digit]);
+    io::write_all(STATUS_FILENO, &[status]);
 }
 
 fn fail(why: &[u8]) {
     io::write_all(STDERR_FILENO, why);
-    io::write_all(STATUS_FILENO, b"2");
+    say(b'2');
 }
 
 fn main() {

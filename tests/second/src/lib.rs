@@ -1,6 +1,7 @@
-//! A second, independent implementation of the machine of docs/HOST.md.
+//! A second, independent implementation of the ration host.
 //!
-//! Written from the rules, docs/STATE.md and docs/RULES.md alone, for comparison with another implementation.
+//! Written from the rules and their readings, as they stood before docs/HOST.md had them (docs/DECISIONS.md), and from docs/STATE.md and
+//! docs/RULES.md alone, for comparison with another implementation.
 
 pub mod bytes;
 pub mod cache;

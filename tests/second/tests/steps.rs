@@ -1,4 +1,4 @@
-//! Steps and refusals that the documents single out.
+//! Steps and refusals that the rules single out.
 
 mod support;
 

@@ -226,7 +226,7 @@ fn odd_owner_marked_free(s: &mut State, rng: &mut Rng) -> Option<()> {
     Some(())
 }
 
-/// Nobody's page: not in the map, its kind not judged by rule 2.
+/// Nobody's page: not in the map, rule 2 does not ask it to be data or a table.
 fn odd_owner_unmarked(s: &mut State, rng: &mut Rng) -> Option<()> {
     let m = free_page(s, rng)?;
     s.page_mut(m).owner = Owner::Odd(6 + rng.below(250) as u8);
