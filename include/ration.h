@@ -62,8 +62,10 @@ enum {
 /* Whether a virtual address is reserved, so that nothing is mapped there: 15, 23, 31, 39, 47, and 48 to 63. Uses va three times. */
 #define RATION_RESERVED(va) ((va) >= RATION_FIRST_HOST_VA || ((va) % 8 == RATION_STEALTH && (va) != RATION_STEALTH))
 
-/* What a record does (its kind), its arguments, and who must have control: 'running' is the active guest, 'waiting' the host.
- * 'call new' and the like: the active guest's pending call is that one, with the same arguments; doing it clears the call. */
+/* What a record does (its kind), its arguments, and who must have control: 'running' is the active guest, 'waiting' the host. On a
+ * fresh machine guest 0 is active and running. hcall and ret_ctrl give the host control, and it keeps it until chmod.
+ * 'call new' and the like: the active guest's pending call is that one, with the same arguments; doing it clears the call. A refusal
+ * leaves the call pending, and nothing else clears it: a guest whose call can never be done does not run again. */
 enum ration_kind {
     RATION_KIND_SILENT = 0,      /* nothing; running or waiting */
     RATION_KIND_READ = 1,        /* answers the value at va a; running */

@@ -137,10 +137,10 @@ impl Refusal {
     fn words(self) -> &'static str {
         match self {
             Refusal::State => "the host's state is damaged",
-            Refusal::Record => "there is no such record, or one of its numbers is too large",
+            Refusal::Record => "there is no such record, or one of its numbers is out of range",
             Refusal::Mode => "a guest may not do this while the host has control, nor the host while a guest runs",
             Refusal::Call => "the guest did not ask for exactly this, or it still waits for what it asked for",
-            Refusal::Reserved => "this address is reserved",
+            Refusal::Reserved => "this address is reserved, or it is the stealth address, which new does not map",
             Refusal::Unmapped => "nothing is mapped at this address",
             Refusal::Unregistered => "the guest has no page at this physical address",
             Refusal::PageKind => "the page is of the wrong kind: only data is mapped, and only a table can be the current table",
