@@ -199,6 +199,7 @@ one-answer a x y e f = e ∙ sym f
     "crates/laws/specs/Choice.antt": "use mathlib.Core.Bool.{Bool}\nuse mathlib.Core.List.{List}\nuse lib.ListN.{getD}\nabbrev pub pick : Bool\npick = true\n",
     "crates/model/src/lib.rt": "",
     "crates/model/specs/Sizes.antt": "use Prim.Native.Nat.{ℕ}\nuse lib.Dec.{eqb}\nabbrev pub pages : ℕ\npages = 64\n",
+    "crates/model/specs/Rules.antt": "-- 1. A guest is\n-- a guest.\nabbrev pub Rule1 : ℕ\nRule1 = 1\n\n-- 2. A page is no guest. Here it is p.\nabbrev pub Rule2 : ℕ\nRule2 = 2\n",
     "crates/model/specs/Names.antt": "use Prim.Native.Nat.{ℕ}\nabbrev pub kindNone : ℕ\nkindNone = 0\n",
     "crates/model/specs/State.antt": """use Prim.Native.Nat.{ℕ}
 

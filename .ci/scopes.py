@@ -1,5 +1,6 @@
 """What the text of each declaration uses: every name, found as antt finds it, by binders, by the file and by its `use` lines. A name or a form that
-is not known here is a complaint, so that nothing is passed over."""
+is not known here is a complaint. Two forms, which no source has, are known to be read wrongly: a bound name with an underscore in guillemets, and a
+name bound by × that is used behind an arrow at the same depth."""
 import re
 from functools import lru_cache
 
