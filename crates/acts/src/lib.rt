@@ -1,6 +1,7 @@
 // The steps of the actions on the host's bytes, each equal to the model's, whatever the state: one file for each action.
 pub mod chmod;
 pub mod del;
+pub mod drop;
 pub mod hcall;
 pub mod lswitch;
 pub mod new;

@@ -1,7 +1,7 @@
 -- The model's actions, taken to the code's and back, are themselves: those whose kind of a pin is in range, as that of every record is.
 -- Assumes nothing.
 use mathlib.Core.Path.{_≡_, refl, ap}
-use Rattle.model.specs.Records.{Action, silent, read, readHyper, write, writeHyper, new, newSm, del, switch, lswitch, hcall, retCtrl, chmod, pin, unpin}
+use Rattle.model.specs.Records.{Action, silent, read, readHyper, write, writeHyper, new, newSm, del, switch, lswitch, hcall, retCtrl, chmod, pin, unpin, drop}
 use Rattle.numbers.specs.declared.calls.CallBytes.{CallBytes}
 use Rattle.numbers.proofs.CallNumbers.{number-kind, bytes-call}
 use Rattle.records.specs.Actions.{actionTo}
@@ -24,3 +24,4 @@ from-to retCtrl h = refl
 from-to chmod h = refl
 from-to (pin p k) h = ap (pin p) (number-kind k h)
 from-to (unpin p) h = refl
+from-to (drop g) h = refl

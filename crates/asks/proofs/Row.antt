@@ -12,14 +12,14 @@ use Rattle.laws.specs.Choice.{pick}
 use Rattle.laws.proofs.Cases.{below?}
 use Rattle.model.specs.Sizes.{calls}
 use Rattle.model.specs.State.{Shape}
-use Rattle.model.specs.Records.{nothing, activeIdle, namedIdle, rowOf, anyMode, fieldsOf}
+use Rattle.model.specs.Records.{nothing, activeIdle, namedIdle, namedPending, rowOf, anyMode, fieldsOf}
 use Rattle.model.specs.Checks.{Asked, asked, first, hasCall, wrongMode, wrongCall}
 use Rattle.model.specs.Step.{ownChecks, refusal}
 use Rattle.numbers.specs.declared.calls.Call.the-variants.{None}
 use Rattle.numbers.proofs.Others.{Others, none-left}
 use Rattle.records.specs.declared.Row.{Row}
 use Rattle.records.specs.declared.Action.{Action}
-use Rattle.records.specs.declared.Action.the-variants.{Silent, Read, ReadHyper, Write, WriteHyper, New, NewSm, Del, Switch, Lswitch, Hcall, RetCtrl, Chmod, Pin, Unpin}
+use Rattle.records.specs.declared.Action.the-variants.{Silent, Read, ReadHyper, Write, WriteHyper, New, NewSm, Del, Switch, Lswitch, Hcall, RetCtrl, Chmod, Pin, Unpin, Drop}
 use Rattle.records.specs.Table.{needOf, rowTo}
 use Rattle.asks.specs.declared.Named.{Named}
 use Rattle.asks.specs.Actions.{actionFrom, nameOf}
@@ -46,9 +46,15 @@ module _ (q : Asked) (n : ℕ) (x : Named) where
     unfolding wrongCallBy
     by-named y e f = rw (ne-eqb n (needOf nothing) z, ne-eqb n (needOf activeIdle) y, eq-eqb n (needOf namedIdle) e) f
 
-    pub by-call : {r : Bool} → (n ≡ needOf activeIdle → ⊥) → (n ≡ needOf namedIdle → ⊥) → r ≡ otherCall q (neededBy n x) → r ≡ wrongCallBy q n x
+    pub by-pending : {r : Bool} → (n ≡ needOf activeIdle → ⊥) → (n ≡ needOf namedIdle → ⊥) → n ≡ needOf namedPending → r ≡ not (hasCall q (x .4 .0))
+        → r ≡ wrongCallBy q n x
     unfolding wrongCallBy
-    by-call y w f = rw (ne-eqb n (needOf nothing) z, ne-eqb n (needOf activeIdle) y, ne-eqb n (needOf namedIdle) w) f
+    by-pending y w e f = rw (ne-eqb n (needOf nothing) z, ne-eqb n (needOf activeIdle) y, ne-eqb n (needOf namedIdle) w, eq-eqb n (needOf namedPending) e) f
+
+    pub by-call : {r : Bool} → (n ≡ needOf activeIdle → ⊥) → (n ≡ needOf namedIdle → ⊥) → (n ≡ needOf namedPending → ⊥) → r ≡ otherCall q (neededBy n x)
+        → r ≡ wrongCallBy q n x
+    unfolding wrongCallBy
+    by-call y w v f = rw (ne-eqb n (needOf nothing) z, ne-eqb n (needOf activeIdle) y, ne-eqb n (needOf namedIdle) w, ne-eqb n (needOf namedPending) v) f
 
 -- ---- both checks
 
@@ -97,6 +103,7 @@ by-need q RetCtrl = refl
 by-need q Chmod = refl
 by-need q (Pin p k) = refl
 by-need q (Unpin p) = refl
+by-need q (Drop g) = refl
 
 kind-named : (x : Action) → nameOf x .0 ≡ fieldsOf (actionFrom x) .kind
 kind-named Silent = refl
@@ -114,6 +121,7 @@ kind-named RetCtrl = refl
 kind-named Chmod = refl
 kind-named (Pin p k) = refl
 kind-named (Unpin p) = refl
+kind-named (Drop g) = refl
 
 row-is : (q : Asked) (x : Action) → rowRefusal q (nameOf x)
     ≡ first ((3, wrongMode q (rowOf (fieldsOf (actionFrom x) .kind))) ∷ (4, wrong q x) ∷ [])

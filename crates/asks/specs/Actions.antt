@@ -2,10 +2,10 @@
 -- Assumes nothing.
 use Prim.Native.Nat.{ℕ}
 use Rattle.model.specs.Sizes.{stealth}
-use Rattle.model.specs.Records.{silent, read, readHyper, write, writeHyper, new, newSm, del, switch, lswitch, hcall, retCtrl, chmod, pin, unpin}
+use Rattle.model.specs.Records.{silent, read, readHyper, write, writeHyper, new, newSm, del, switch, lswitch, hcall, retCtrl, chmod, pin, unpin, drop}
 use Rattle.model.specs.Records as records
 use Rattle.records.specs.declared.Action.{Action}
-use Rattle.records.specs.declared.Action.the-variants.{Silent, Read, ReadHyper, Write, WriteHyper, New, NewSm, Del, Switch, Lswitch, Hcall, RetCtrl, Chmod, Pin, Unpin}
+use Rattle.records.specs.declared.Action.the-variants.{Silent, Read, ReadHyper, Write, WriteHyper, New, NewSm, Del, Switch, Lswitch, Hcall, RetCtrl, Chmod, Pin, Unpin, Drop}
 use Rattle.numbers.specs.declared.Va.{Va}
 use Rattle.numbers.specs.declared.Pa.{Pa}
 use Rattle.numbers.specs.declared.Guest.{Guest}
@@ -31,6 +31,7 @@ actionFrom RetCtrl = retCtrl
 actionFrom Chmod = chmod
 actionFrom (Pin p k) = pin (p .0) (pinNumber k)
 actionFrom (Unpin p) = unpin (p .0)
+actionFrom (Drop g) = drop (g .0)
 
 -- an action's kind and what it names: an address, a physical address, a pin's kind, a guest
 abbrev pub named : ℕ → Va → Pa → PinKind → Guest → Named
@@ -65,3 +66,4 @@ nameOf RetCtrl = bare 11
 nameOf Chmod = bare 12
 nameOf (Pin p k) = named 13 (va 0) p k (guest 0)
 nameOf (Unpin p) = physical 14 p
+nameOf (Drop g) = named 15 (va 0) (pa 0) Data g

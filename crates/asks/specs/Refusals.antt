@@ -9,7 +9,7 @@ use Rattle.laws.specs.Choice.{pick, at}
 use Rattle.model.specs.Sizes.{stealth}
 use Rattle.model.specs.Names.{kindData, kindTable}
 use Rattle.model.specs.State.{Shape, active, isPage, kindOf, isCacheable, mapped}
-use Rattle.model.specs.Records.{nothing, activeIdle, namedIdle, rowOf}
+use Rattle.model.specs.Records.{nothing, activeIdle, namedIdle, namedPending, rowOf}
 use Rattle.model.specs.Checks.{Asked, Check, first, hasCall, wrongMode, hasEntries}
 use Rattle.records.specs.Table.{needOf}
 use Rattle.numbers.specs.declared.calls.Call.{Call}
@@ -32,7 +32,8 @@ neededBy n x = getD (None ∷ New (x .1) (x .2) ∷ Del (x .1) ∷ Lswitch (x .2
 unfoldable pub wrongCallBy : Asked → ℕ → Named → Bool
 wrongCallBy q n x =
     pick (eqb n (needOf nothing)) false
-    (pick (eqb n (needOf activeIdle)) (hasCall q (q .active)) (pick (eqb n (needOf namedIdle)) (hasCall q (x .4 .0)) (otherCall q (neededBy n x))))
+    (pick (eqb n (needOf activeIdle)) (hasCall q (q .active))
+    (pick (eqb n (needOf namedIdle)) (hasCall q (x .4 .0)) (pick (eqb n (needOf namedPending)) (not (hasCall q (x .4 .0))) (otherCall q (neededBy n x)))))
 
 -- checks 3 and 4 of an action of this kind that names this
 unfoldable pub rowRefusal : Asked → Named → ℕ

@@ -120,6 +120,10 @@ fn wrong_call(h: &Host, n: u8, x: Named) -> bool
         let g = x.4;
         return has_call(h, g);
     }
+    if n == records::NAMED_PENDING {
+        let g = x.4;
+        return !has_call(h, g);
+    }
     other_call(h, needed(n, x))
 }
 
@@ -309,6 +313,7 @@ fn name_of(x: Action) -> Named
         Action::Chmod => Named(12, Va(0), Pa(0), PinKind::Data, Guest(0)),
         Action::Pin(p, k) => Named(13, Va(0), p, k, Guest(0)),
         Action::Unpin(p) => Named(14, Va(0), p, PinKind::Data, Guest(0)),
+        Action::Drop(g) => Named(15, Va(0), Pa(0), PinKind::Data, g),
     }
 }
 
@@ -331,6 +336,7 @@ fn own_refusal(h: &Host, x: Action) -> u8
         Action::Hcall(_) => ACCEPTED,
         Action::RetCtrl => ACCEPTED,
         Action::Chmod => ACCEPTED,
+        Action::Drop(_) => ACCEPTED,
     }
 }
 

@@ -19,7 +19,7 @@ use Rattle.steps.proofs.Running.{from-to}
 use Rattle.guarantee.specs.Guarantee.{Folds}
 
 -- the answers and the state of `step`, record after record, are those of the model's run
-folds-run : (s t : State) (rs : List (List ℕ)) (xs : List Answer) → Folds s rs xs t → (map answerFrom xs ≡ run s rs .answers) × (t ≡ run s rs .state)
+pub folds-run : (s t : State) (rs : List (List ℕ)) (xs : List Answer) → Folds s rs xs t → (map answerFrom xs ≡ run s rs .answers) × (t ≡ run s rs .state)
 unfolding runBy
 folds-run s t [] [] h = (refl, h)
 folds-run s t [] (x ∷ xs) h = absurd h

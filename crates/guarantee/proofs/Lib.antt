@@ -3,3 +3,4 @@ pub mod Answered
 pub mod Parts
 pub mod Journals
 pub mod Folds
+pub mod Resumes

@@ -13,6 +13,7 @@ use Rattle.laws.proofs.Search.{Each}
 use Rattle.model.specs.Sizes.{answerBytes, answerValueAt, valueBound}
 use Rattle.model.specs.State.{State}
 use Rattle.model.specs.Records.{Action, silent, read, readHyper, write, writeHyper, new, newSm, del, switch, lswitch, hcall, retCtrl, chmod, pin, unpin, Bytes, wordAt}
+use Rattle.model.specs.Records as records
 use Rattle.model.specs.Valid.{Valid}
 use Rattle.model.specs.Step.{Answer, numberOf, valueOf, value, Outcome, step}
 use Rattle.model.specs.Run.{run, runBy}
@@ -43,6 +44,7 @@ value-below v retCtrl = omega arith
 value-below v chmod = omega arith
 value-below v (pin pa k) = omega arith
 value-below v (unpin pa) = omega arith
+value-below v (records.drop g) = omega arith
 
 abbrev Small : Answer → Type 0
 Small a = valueOf a < valueBound

@@ -1,1 +1,2 @@
 pub mod Guarantee
+pub mod Resumes

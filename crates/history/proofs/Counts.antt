@@ -13,7 +13,7 @@ use Rattle.laws.proofs.Counts.{count-set}
 use Rattle.model.specs.Sizes.{pages}
 use Rattle.model.specs.Names.{ownerNone, ownerGuest}
 use Rattle.model.specs.State.{State, active, here}
-use Rattle.model.specs.Records.{Action, silent, read, readHyper, write, writeHyper, new, newSm, del, switch, lswitch, hcall, retCtrl, chmod, pin, unpin, InRange}
+use Rattle.model.specs.Records.{Action, silent, read, readHyper, write, writeHyper, new, newSm, del, switch, lswitch, hcall, retCtrl, chmod, pin, unpin, drop, InRange}
 use Rattle.model.specs.Parts.{takeOut, takeOutPage, enter, loadStealth}
 use Rattle.model.specs.Read.{accessHistory, readStep}
 use Rattle.model.specs.Write.{store, writeStep}
@@ -27,6 +27,7 @@ use Rattle.model.specs.RetCtrl.{retCtrlStep}
 use Rattle.model.specs.Chmod.{chmodStep}
 use Rattle.model.specs.Pin.{pinStep}
 use Rattle.model.specs.Unpin.{unpinStep}
+use Rattle.model.specs.Drop.{dropStep}
 use Rattle.model.specs.Valid.{Valid}
 use Rattle.model.specs.Checks.{lowestFree}
 use Rattle.model.specs.Step.{next}
@@ -85,7 +86,7 @@ module _ {s : State} (v : Valid s) (b : Book) (past : Past) (is : activeIn b pas
 
   pub next-counted : (x : Action) → InRange x → Allowed (s .shape) x
       → owned (next s x .shape) g + unpinsIn b (x ∷ past) g ≡ n + pinsIn b (x ∷ past) g
-  unfolding next readStep accessHistory writeStep store newStep share newSmStep delStep switchStep lswitchStep hcallStep retCtrlStep chmodStep takeOut takeOutPage enter loadStealth pinsIn unpinsIn
+  unfolding next readStep accessHistory writeStep store newStep share newSmStep delStep switchStep lswitchStep hcallStep retCtrlStep chmodStep dropStep takeOut takeOutPage enter loadStealth pinsIn unpinsIn
   next-counted silent r w = so
   next-counted (read va) r w = so
   next-counted (readHyper va) r w = so
@@ -101,3 +102,4 @@ module _ {s : State} (v : Valid s) (b : Book) (past : Past) (is : activeIn b pas
   next-counted chmod r w = so
   next-counted (pin pa k) r w = pin-counted pa k r w
   next-counted (unpin pa) r w = unpin-counted pa r w
+  next-counted (drop h) r w = so

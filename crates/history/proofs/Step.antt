@@ -7,7 +7,7 @@ use Rattle.laws.specs.Choice.{at}
 use Rattle.model.specs.Sizes.{physicals, addresses, stealth}
 use Rattle.model.specs.Names.{kindTable}
 use Rattle.model.specs.State.{State, active, here}
-use Rattle.model.specs.Records.{Action, silent, read, readHyper, write, writeHyper, new, newSm, del, switch, lswitch, hcall, retCtrl, chmod, pin, unpin, InRange}
+use Rattle.model.specs.Records.{Action, silent, read, readHyper, write, writeHyper, new, newSm, del, switch, lswitch, hcall, retCtrl, chmod, pin, unpin, drop, InRange}
 use Rattle.model.specs.Rules.{Maps}
 use Rattle.model.specs.Valid.{Valid}
 use Rattle.model.specs.Checks.{lowestFree}
@@ -17,7 +17,7 @@ use Rattle.keeps.proofs.Allowed.{not-reserved, of-here, is-here, is-mapped}
 use Rattle.keeps.proofs.Keeps.{lowest-free, unused}
 use Rattle.history.specs.Past.{Book, activeIn, currentIn, kindIn, linkIn, valueIn, bookAfter, answerIn}
 use Rattle.history.specs.Agrees.{Agrees}
-use Rattle.history.proofs.Quiet.{hcall-agrees, retCtrl-agrees, chmod-agrees}
+use Rattle.history.proofs.Quiet.{hcall-agrees, retCtrl-agrees, chmod-agrees, drop-agrees}
 use Rattle.history.proofs.Access.{read-agrees, write-agrees, read-value}
 use Rattle.history.proofs.Turns.{switch-agrees, lswitch-agrees}
 use Rattle.history.proofs.Mapping.{new-agrees, newSm-agrees, del-agrees}
@@ -49,6 +49,7 @@ module _ {s : State} (v : Valid s) {b : Book} (a : Agrees s b) where
       (of-here (λ p. at (s .shape .pages .physical) (physicals * active (s .shape) + pa) ≡ suc p) (w .there) (w .there .registered)) (w .notCurrent)
       (of-here (λ p. (va : ℕ) → va < addresses → at (s .shape .pages .entry) (addresses * p + va) ≡ 0) (w .there) (w .noEntries))
       (of-here (λ p. (m va : ℕ) → Maps (s .shape .pages .kind) (s .shape .pages .entry) m va p → ⊥) (w .there) (λ m va l. w .unmapped va (m, l)))
+  next-agrees (drop g) r w = drop-agrees a g
 
   pub value-agrees : (x : Action) → InRange x → Allowed (s .shape) x → value s x ≡ answerIn b [] x
   unfolding value activeIn currentIn linkIn valueIn
@@ -67,3 +68,4 @@ module _ {s : State} (v : Valid s) {b : Book} (a : Agrees s b) where
   value-agrees chmod r w = refl
   value-agrees (pin pa k) r w = refl
   value-agrees (unpin pa) r w = refl
+  value-agrees (drop g) r w = refl

@@ -7,7 +7,7 @@ use mathlib.Core.List.{_∷_}
 use Prim.Native.Nat.{ℕ}
 use lib.Dec.{eqb}
 use borrow.Author.Tests.{ne-eqb}
-use Rattle.model.specs.Records.{Action, silent, read, readHyper, write, writeHyper, new, newSm, del, switch, lswitch, hcall, retCtrl, chmod, pin, unpin}
+use Rattle.model.specs.Records.{Action, silent, read, readHyper, write, writeHyper, new, newSm, del, switch, lswitch, hcall, retCtrl, chmod, pin, unpin, drop}
 use Rattle.history.specs.Past.{Past, Book, activeIn, currentIn, kindIn, linkIn, valueIn}
 
 -- An action while guest g is not active leaves its current table, its pages' kinds, where its tables lead, and its pages' values.
@@ -34,3 +34,4 @@ module _ (b : Book) (past : Past) (g : ℕ) (n : g ≢ activeIn b past) where
   others-leave chmod = (refl, (λ pa. refl), (λ pt va. refl), λ pa. refl)
   others-leave (pin qa k) = (refl, (λ pa. rw off), (λ pt va. rw off), λ pa. rw off)
   others-leave (unpin qa) = (refl, (λ pa. rw off), (λ pt va. refl), λ pa. refl)
+  others-leave (drop h) = (refl, (λ pa. refl), (λ pt va. refl), λ pa. refl)

@@ -9,7 +9,7 @@ use lib.Dec.{eqb}
 use Rattle.laws.specs.Choice.{pick}
 use Rattle.model.specs.Sizes.{stealth}
 use Rattle.model.specs.Names.{kindNone, kindData, kindTable}
-use Rattle.model.specs.Records.{Action, silent, read, readHyper, write, writeHyper, new, newSm, del, switch, lswitch, hcall, retCtrl, chmod, pin, unpin, decode}
+use Rattle.model.specs.Records.{Action, silent, read, readHyper, write, writeHyper, new, newSm, del, switch, lswitch, hcall, retCtrl, chmod, pin, unpin, drop, decode}
 
 -- accepted actions, the latest first
 abbrev pub Past : Type 0
@@ -62,6 +62,7 @@ deedOf retCtrl = quiet
 deedOf chmod = quiet
 deedOf (pin pa k) = pinned pa (pick (eqb k 0) kindData kindTable)
 deedOf (unpin pa) = unpinned pa
+deedOf (drop g) = quiet
 
 -- ---- what a past says
 

@@ -11,7 +11,7 @@ use lib.Dec.{eqb}
 use borrow.Author.Tests.{eqb-true, eqb-false}
 use Rattle.laws.proofs.Tests.{not-so}
 use Rattle.model.specs.State.{State}
-use Rattle.model.specs.Records.{Action, silent, read, readHyper, write, writeHyper, new, newSm, del, switch, lswitch, hcall, retCtrl, chmod, pin, unpin, InRange, Bytes, decode}
+use Rattle.model.specs.Records.{Action, silent, read, readHyper, write, writeHyper, new, newSm, del, switch, lswitch, hcall, retCtrl, chmod, pin, unpin, drop, InRange, Bytes, decode}
 use Rattle.model.specs.Valid.{Valid, valid?}
 use Rattle.model.specs.Checks.{Asked, asked, first}
 use Rattle.model.specs.Step.{ownChecks, checks, refusal, next, value, done, numberOf, valueOf, Outcome, refuse, act, judge, step}
@@ -41,6 +41,7 @@ rising q retCtrl = omega arith
 rising q chmod = omega arith
 rising q (pin pa k) = omega arith
 rising q (unpin pa) = omega arith
+rising q (drop g) = omega arith
 
 pub all-rising : (s : State) (l : List ℕ) → Rising 0 (allChecks s l)
 all-rising s l = (omega arith, go (decode l))

@@ -17,12 +17,12 @@ use Rattle.laws.proofs.Grid.{someGrid⇔}
 use Rattle.model.specs.Sizes.{physicals, pages, addresses, firstReserved, stealth, reserved}
 use Rattle.model.specs.Names.{running, waiting, kindData, kindTable}
 use Rattle.model.specs.State.{Shape, State, active, isPage, mapped, here, isMapped}
-use Rattle.model.specs.Records.{Action, silent, read, readHyper, write, writeHyper, new, newSm, del, switch, lswitch, hcall, retCtrl, chmod, pin, unpin, InRange, anyMode, callNew, callDel, callLswitch, callPin, callUnpin}
+use Rattle.model.specs.Records.{Action, silent, read, readHyper, write, writeHyper, new, newSm, del, switch, lswitch, hcall, retCtrl, chmod, pin, unpin, drop, InRange, anyMode, callNew, callDel, callLswitch, callPin, callUnpin}
 use Rattle.model.specs.Valid.{Valid}
 use Rattle.model.specs.Checks.{Check, asked, hasEntries, lowestFree}
 use Rattle.model.specs.Step.{ownChecks, checks}
 use Rattle.model.proofs.RuleTests.{lead-holds, mapsPage⇔}
-use Rattle.keeps.specs.Allowed.{Pending, Idle, Unreserved, At, MapsTo, Leads, Access, Allowed}
+use Rattle.keeps.specs.Allowed.{Pending, Idle, HasCall, Unreserved, At, MapsTo, Leads, Access, Allowed}
 use Rattle.keeps.proofs.Core.{core-of, lead-is, mapped-is, maps-here}
 use Rattle.keeps.proofs.Sets.{reserved⇔, stealth-only}
 use Rattle.keeps.proofs.Checks.{Passed}
@@ -171,6 +171,9 @@ module _ {s : State} (v : Valid s) where
   idle : (g : ℕ) → not (eqb (at (s .shape .guests .call) g) 0) ⇎ Idle (s .shape) g
   idle g = unless (eq⇔ (at (s .shape .guests .call) g) 0)
 
+  calling : (g : ℕ) → not (not (eqb (at (s .shape .guests .call) g) 0)) ⇎ HasCall (s .shape) g
+  calling g = unless (not⇔ (eq⇔ (at (s .shape .guests .call) g) 0))
+
   pub allowed-if : (x : Action) → InRange x → Passed (checks (asked (s .shape)) x) → Allowed (s .shape) x
   unfolding asked ownChecks
   allowed-if silent r q = tt
@@ -238,6 +241,7 @@ module _ {s : State} (v : Valid s) where
         noEntries = d′ .1 .0;
         unmapped = d′ .1 .1;
       }
+  allowed-if (drop g) hg (m, (c, z)) = record { waits = inMode waiting refl .0 m; calls = calling g .0 c }
 
   pub if-allowed : (x : Action) → InRange x → Allowed (s .shape) x → Passed (checks (asked (s .shape)) x)
   unfolding asked ownChecks
@@ -321,3 +325,4 @@ module _ {s : State} (v : Valid s) where
       ),
     ),
   )
+  if-allowed (drop g) r a = (inMode waiting refl .1 (a .waits), (calling g .1 (a .calls), tt))

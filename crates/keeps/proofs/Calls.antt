@@ -6,7 +6,7 @@ use native.Mathlib.Omega.{arith}
 use lib.ListN.{set}
 use Rattle.laws.specs.Choice.{at}
 use Rattle.laws.proofs.Cases.{same?}
-use Rattle.laws.proofs.Lists.{at-same, at-other}
+use Rattle.laws.proofs.Lists.{at-same, at-other, at-any}
 use Rattle.model.specs.Sizes.{guests, calls, callABound, callBBound}
 use Rattle.model.specs.Names.{running}
 use Rattle.model.specs.State.{State, active, table}
@@ -32,16 +32,14 @@ fits-below x a b h f = go x (call-in x a b h f)
     go (suc (suc (suc (suc (suc zero))))) w = (omega (arith, w .0), omega (arith, w .1))
     go (suc (suc (suc (suc (suc (suc y)))))) w = absurd w
 
--- ---- the active guest's call is stored
+-- ---- a guest's call is stored
 
-module _ {s : State} (c : Core s) {x a b : ℕ} (known : x < calls) (fit : Fits x a b) (idle : s .shape .guests .mode ≡ running → Stored x → ⊥) where
+module _ {s : State} (c : Core s) {g : ℕ} (hg : g < guests) {x a b : ℕ} (known : x < calls) (fit : Fits x a b)
+    (idle : s .shape .guests .mode ≡ running → Stored x → ⊥) where
   fitting : (i : ℕ) → i < guests
-      → Fits (at (set (s .shape .guests .call) (active (s .shape)) x) i) (at (set (s .shape .guests .callA) (active (s .shape)) a) i)
-      (at (set (s .shape .guests .callB) (active (s .shape)) b) i)
+      → Fits (at (set (s .shape .guests .call) g x) i) (at (set (s .shape .guests .callA) g a) i) (at (set (s .shape .guests .callB) g b) i)
   fitting i hi =
       let G = s .shape .guests in
-      let g = active (s .shape) in
-      let h = c .rule10 .guests .active in
       same? i g
       (λ e. rw (
         e,
@@ -51,20 +49,17 @@ module _ {s : State} (c : Core s) {x a b : ℕ} (known : x < calls) (fit : Fits 
       ) fit)
       (λ n. rw (at-other (G .call) g x i n, at-other (G .callA) g a i n, at-other (G .callB) g b i n) (c .rule10 .guests .arguments i hi))
 
-  stored-rule1 : Rule1 (set (s .shape .guests .call) (active (s .shape)) x) (set (s .shape .guests .callA) (active (s .shape)) a)
-      (set (s .shape .guests .callB) (active (s .shape)) b) (active (s .shape)) (s .shape .guests .mode)
+  stored-rule1 : Rule1 (set (s .shape .guests .call) g x) (set (s .shape .guests .callA) g a) (set (s .shape .guests .callB) g b) (active (s .shape))
+      (s .shape .guests .mode)
   stored-rule1 =
-      let g = active (s .shape) in
-      let hg = c .rule10 .guests .active in
       record {
-        idle = λ h m t. idle m (rw (at-same (s .shape .guests .call) g x (omega (arith, c .sized .call))) at t);
+        idle = λ h m. at-any (λ (y : ℕ). Stored y → ⊥) (s .shape .guests .call) g x (active (s .shape)) (idle m) (c .rule1 .idle h m);
         fits = λ i hi t. fitting i hi;
       }
 
-  pub setCall-core : Core (shaped s (setCall (s .shape) (active (s .shape)) x a b))
+  pub setCall-core : Core (shaped s (setCall (s .shape) g x a b))
   setCall-core =
       let G = s .shape .guests in
-      let g = active (s .shape) in
       guests-core c
       (record {
         current = c .sized .current;
@@ -90,14 +85,23 @@ module _ {s : State} (c : Core s) {x a b : ℕ} (known : x < calls) (fit : Fits 
 none-fits : Fits 0 0 0
 none-fits = record { aLow = omega arith; aHigh = omega arith; bLow = omega arith; bHigh = omega arith }
 
-pub clear-core : {s : State} → Core s → Core (shaped s (clearCall (s .shape)))
-clear-core c = setCall-core c (omega arith) none-fits (λ m t. let z = t .some in omega arith)
+none-core : {s : State} → Core s → {g : ℕ} → g < guests → Core (shaped s (setCall (s .shape) g 0 0 0))
+none-core c h = setCall-core c h (omega arith) none-fits (λ m t. let z = t .some in omega arith)
 
-pub setCall-valid : {s : State} → Valid s → {x a b : ℕ} → x < calls → Fits x a b → (s .shape .guests .mode ≡ running → Stored x → ⊥)
-    → Valid (shaped s (setCall (s .shape) (active (s .shape)) x a b))
+-- the active guest's
+pub clear-core : {s : State} → Core s → Core (shaped s (clearCall (s .shape)))
+clear-core c = none-core c (c .rule10 .guests .active)
+
+-- ---- on a valid state
+
+pub setCall-valid : {s : State} → Valid s → {g : ℕ} → g < guests → {x a b : ℕ} → x < calls → Fits x a b
+    → (s .shape .guests .mode ≡ running → Stored x → ⊥) → Valid (shaped s (setCall (s .shape) g x a b))
 unfolding table
-setCall-valid v h f i = valid-of (setCall-core (core-of v) h f i) (v .rule8) (v .rule9)
+setCall-valid v g h f i = valid-of (setCall-core (core-of v) g h f i) (v .rule8) (v .rule9)
+
+pub none-valid : {s : State} → Valid s → {g : ℕ} → g < guests → Valid (shaped s (setCall (s .shape) g 0 0 0))
+unfolding table
+none-valid v h = valid-of (none-core (core-of v) h) (v .rule8) (v .rule9)
 
 pub clear-valid : {s : State} → Valid s → Valid (shaped s (clearCall (s .shape)))
-unfolding table
-clear-valid v = valid-of (clear-core (core-of v)) (v .rule8) (v .rule9)
+clear-valid v = none-valid v (v .rule10 .guests .active)

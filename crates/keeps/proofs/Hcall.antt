@@ -13,4 +13,4 @@ use Rattle.keeps.proofs.Mode.{waits-valid}
 -- the call is stored in the state that already waits
 pub hcallStep-valid : {s : State} → Valid s → (c a b : ℕ) → CallInRange c a b → Valid (hcallStep s c a b)
 unfolding hcallStep
-hcallStep-valid v c a b r = let f = in-call c a b r in setCall-valid (waits-valid v) (f .0) (f .1) (λ m t. omega arith)
+hcallStep-valid v c a b r = let f = in-call c a b r in setCall-valid (waits-valid v) (v .rule10 .guests .active) (f .0) (f .1) (λ m t. omega arith)

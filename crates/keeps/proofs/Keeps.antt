@@ -13,7 +13,7 @@ use Rattle.model.specs.Sizes.{guests, physicals, pages, addresses, stealth}
 use Rattle.model.specs.Names.{kindData, kindTable}
 use Rattle.model.specs.State.{State, active, mapped, here}
 use Rattle.model.specs.Fresh.{fresh}
-use Rattle.model.specs.Records.{Action, silent, read, readHyper, write, writeHyper, new, newSm, del, switch, lswitch, hcall, retCtrl, chmod, pin, unpin, InRange, Bytes}
+use Rattle.model.specs.Records.{Action, silent, read, readHyper, write, writeHyper, new, newSm, del, switch, lswitch, hcall, retCtrl, chmod, pin, unpin, drop, InRange, Bytes}
 use Rattle.model.specs.Rules.{Maps}
 use Rattle.model.specs.Valid.{Valid}
 use Rattle.model.specs.Checks.{lowestFree}
@@ -34,6 +34,7 @@ use Rattle.keeps.proofs.RetCtrl.{retCtrlStep-valid}
 use Rattle.keeps.proofs.Chmod.{chmodStep-valid}
 use Rattle.keeps.proofs.Pin.{pinStep-valid}
 use Rattle.keeps.proofs.Unpin.{unpinStep-valid}
+use Rattle.keeps.proofs.Drop.{dropStep-valid}
 use Rattle.keeps.proofs.Switch.{switchStep-valid}
 use Rattle.keeps.proofs.Lswitch.{lswitchStep-valid}
 use Rattle.keeps.proofs.NewSm.{newSmStep-valid}
@@ -90,6 +91,7 @@ module _ {s : State} (v : Valid s) where
       (a .notCurrent)
       (of-here (λ x. (va : ℕ) → va < addresses → at (s .shape .pages .entry) (addresses * x + va) ≡ 0) (a .there) (a .noEntries))
       (of-here (λ x. (m va : ℕ) → Maps (s .shape .pages .kind) (s .shape .pages .entry) m va x → ⊥) (a .there) (λ m va l. a .unmapped va (m, l)))
+  next-valid (drop g) r a = dropStep-valid v g r
 
 -- ---- any bytes
 

@@ -23,6 +23,7 @@ pub mod RetCtrl
 pub mod Chmod
 pub mod Pin
 pub mod Unpin
+pub mod Drop
 pub mod Checks
 pub mod Allowed
 pub mod Accepted
@@ -31,3 +32,4 @@ pub mod Fresh
 pub mod Keeps
 pub mod Samples
 pub mod Answers
+pub mod Resumes

@@ -9,7 +9,7 @@ use Rattle.laws.specs.Bits.{bit}
 use Rattle.model.specs.Sizes.{physicals, pages, addresses, firstReserved, stealth, stealthSet, setOf}
 use Rattle.model.specs.Names.{running, waiting, kindData, kindTable}
 use Rattle.model.specs.State.{Shape, State, active, table}
-use Rattle.model.specs.Records.{Action, silent, read, readHyper, write, writeHyper, new, newSm, del, switch, lswitch, hcall, retCtrl, chmod, pin, unpin, InRange, encode, callNew, callDel, callLswitch, callPin, callUnpin}
+use Rattle.model.specs.Records.{Action, silent, read, readHyper, write, writeHyper, new, newSm, del, switch, lswitch, hcall, retCtrl, chmod, pin, unpin, drop, InRange, encode, callNew, callDel, callLswitch, callPin, callUnpin}
 use Rattle.model.specs.Rules.{Maps}
 use Rattle.model.specs.Valid.{Valid}
 
@@ -24,6 +24,10 @@ pub record Pending (h : Shape) (c a b : ℕ) : Type 0 where
 -- guest g has no pending call
 abbrev pub Idle : Shape → ℕ → Type 0
 Idle h g = at (h .guests .call) g ≡ 0
+
+-- guest g has a pending call
+abbrev pub HasCall : Shape → ℕ → Type 0
+HasCall h g = at (h .guests .call) g ≢ 0
 
 -- the address is not reserved: below the host's, and outside the stealth set unless it is the stealth address
 pub record Unreserved (va : ℕ) : Type 0 where
@@ -110,6 +114,10 @@ pub record AllowsUnpin (h : Shape) (pa : ℕ) : Type 0 where
   pub noEntries : (va : ℕ) → va < addresses → at (h .pages .entry) (addresses * page + va) ≡ 0
   pub unmapped : (va : ℕ) → MapsTo h va page → ⊥
 
+pub record AllowsDrop (h : Shape) (g : ℕ) : Type 0 where
+  pub waits : h .guests .mode ≡ waiting
+  pub calls : HasCall h g
+
 abbrev pub Allowed : Shape → Action → Type 0
 Allowed h silent = Unit {0}
 Allowed h (read va) = Access h running va
@@ -126,6 +134,7 @@ Allowed h retCtrl = h .guests .mode ≡ running
 Allowed h chmod = AllowsChmod h
 Allowed h (pin pa k) = AllowsPin h pa k
 Allowed h (unpin pa) = AllowsUnpin h pa
+Allowed h (drop g) = AllowsDrop h g
 
 -- ---- any bytes on any state
 

@@ -1,2 +1,3 @@
 pub mod Allowed
 pub mod Numbers
+pub mod Resumes

@@ -15,7 +15,7 @@ use Rattle.laws.specs.Choice.{pick, at, _⇔_}
 use Rattle.laws.proofs.Cases.{split}
 use Rattle.laws.proofs.Tests.{eq⇔, lt⇔, and⇔, or⇔, pick⇔, true⇔, as⇔}
 use Rattle.model.specs.Sizes.{stealth, calls, kinds, recordBytes, byteBound, valueBound}
-use Rattle.model.specs.Records.{rowOf, kindHcall, kindOfCall, Action, silent, read, readHyper, write, writeHyper, new, newSm, del, switch, lswitch, hcall, retCtrl, chmod, pin, unpin, Fields, fields, fieldsOf, CallInRange, InRange, wordBytes, bytesOf, encode, Bytes, fieldsIn, hasValue, limitKind, wellFormed, actionOf, decode}
+use Rattle.model.specs.Records.{rowOf, kindHcall, kindOfCall, Action, silent, read, readHyper, write, writeHyper, new, newSm, del, switch, lswitch, hcall, retCtrl, chmod, pin, unpin, drop, Fields, fields, fieldsOf, CallInRange, InRange, wordBytes, bytesOf, encode, Bytes, fieldsIn, hasValue, limitKind, wellFormed, actionOf, decode}
 use Rattle.model.specs.Rules.{Within}
 use Rattle.model.proofs.RuleTests.{within⇔}
 
@@ -148,7 +148,8 @@ module _ (a b c v : ℕ) (hv : v < valueBound) where
   sound (suc (suc (suc (suc (suc (suc (suc (suc (suc (suc (suc (suc zero)))))))))))) w = record { inRange = tt; same = rw (zero-of (w .limits .aHigh), zero-of (w .limits .bHigh), w .callZero (λ e. omega arith), w .valueZero refl) }
   sound (suc (suc (suc (suc (suc (suc (suc (suc (suc (suc (suc (suc (suc zero))))))))))))) w = record { inRange = (w .limits .aHigh, w .limits .bHigh); same = rw (w .callZero (λ e. omega arith), w .valueZero refl) }
   sound (suc (suc (suc (suc (suc (suc (suc (suc (suc (suc (suc (suc (suc (suc zero)))))))))))))) w = record { inRange = w .limits .aHigh; same = rw (zero-of (w .limits .bHigh), w .callZero (λ e. omega arith), w .valueZero refl) }
-  sound (suc (suc (suc (suc (suc (suc (suc (suc (suc (suc (suc (suc (suc (suc (suc k))))))))))))))) w = absurd (omega (arith, w .known))
+  sound (suc (suc (suc (suc (suc (suc (suc (suc (suc (suc (suc (suc (suc (suc (suc zero))))))))))))))) w = record { inRange = w .limits .aHigh; same = rw (zero-of (w .limits .bHigh), w .callZero (λ e. omega arith), w .valueZero refl) }
+  sound (suc (suc (suc (suc (suc (suc (suc (suc (suc (suc (suc (suc (suc (suc (suc (suc k)))))))))))))))) w = absurd (omega (arith, w .known))
 
 -- ---- actions
 
@@ -168,6 +169,7 @@ in-value retCtrl h = omega arith
 in-value chmod h = omega arith
 in-value (pin pa k) h = omega arith
 in-value (unpin pa) h = omega arith
+in-value (drop g) h = omega arith
 
 -- fields of a kind that is no hcall
 other : (k a b v : ℕ) → k < kinds → k ≢ kindHcall → Within (rowOf k) a b → (hasValue k ≡ false → v ≡ 0) → Formed (fields k a b 0 v)
@@ -192,6 +194,7 @@ formed retCtrl h = other 11 0 0 0 (omega arith) (λ e. omega arith) (omega arith
 formed chmod h = other 12 0 0 0 (omega arith) (λ e. omega arith) (omega arith) (λ e. refl)
 formed (pin pa k) h = other 13 pa k 0 (omega arith) (λ e. omega arith) (omega arith) (λ e. refl)
 formed (unpin pa) h = other 14 pa 0 0 (omega arith) (λ e. omega arith) (omega arith) (λ e. refl)
+formed (drop g) h = other 15 g 0 0 (omega arith) (λ e. omega arith) (omega arith) (λ e. refl)
 
 -- an action is that of its fields
 back : (x : Action) → actionOf (fieldsOf x) ≡ x
@@ -210,6 +213,7 @@ back retCtrl = refl
 back chmod = refl
 back (pin pa k) = refl
 back (unpin pa) = refl
+back (drop g) = refl
 
 -- ---- records
 

@@ -21,13 +21,14 @@ use Rattle.model.specs.RetCtrl.{retCtrlStep}
 use Rattle.model.specs.Chmod.{chmodStep}
 use Rattle.model.specs.Pin.{pinStep}
 use Rattle.model.specs.Unpin.{unpinStep}
+use Rattle.model.specs.Drop.{dropStep}
 use Rattle.model.specs.Step.{ownChecks, refusal, next, value, act, judge}
 use Rattle.model.specs.Run.{runBy}
 use Rattle.model.specs.Journal.{hasHeader, formRefusal}
 use Rattle.model.specs.Samples.{passes, allPass, groupsPass, samples, nineRight, ninePlayed, journalsPass, allSamples}
 
 runs-pass : groupsPass judge samples && ninePlayed judge ≡ true
-unfolding firstFrom seekFrom listFrom bit marked unmarked table mapsPage hitWay lineOfPage present freshPages freshGuests freshCache fresh decode hasEntries lowestFree asked takeOut takeOutPage enter wayFor loadStealth accessWay missLine accessHistory readStep store writeStep share newStep newSmStep delStep switchStep lswitchStep hcallStep retCtrlStep chmodStep pinStep unpinStep ownChecks refusal next value act judge passes allPass groupsPass samples runBy nineRight
+unfolding firstFrom seekFrom listFrom bit marked unmarked table mapsPage hitWay lineOfPage present freshPages freshGuests freshCache fresh decode hasEntries lowestFree asked takeOut takeOutPage enter wayFor loadStealth accessWay missLine accessHistory readStep store writeStep share newStep newSmStep delStep switchStep lswitchStep hcallStep retCtrlStep chmodStep pinStep unpinStep dropStep ownChecks refusal next value act judge passes allPass groupsPass samples runBy nineRight
 runs-pass = refl
 
 journals-pass : journalsPass ≡ true

@@ -2,7 +2,7 @@
 -- Assumes nothing.
 use mathlib.Core.Path.{_≡_, refl}
 use Rattle.model.specs.State.{Shape, Values, State}
-use Rattle.model.specs.Records.{Action, silent, read, readHyper, write, writeHyper, new, newSm, del, switch, lswitch, hcall, retCtrl, chmod, pin, unpin}
+use Rattle.model.specs.Records.{Action, silent, read, readHyper, write, writeHyper, new, newSm, del, switch, lswitch, hcall, retCtrl, chmod, pin, unpin, drop}
 use Rattle.model.specs.Parts.{takeOut, takeOutPage, enter, loadStealth}
 use Rattle.model.specs.Read.{accessHistory, readStep}
 use Rattle.model.specs.Write.{store, writeStep}
@@ -16,6 +16,7 @@ use Rattle.model.specs.RetCtrl.{retCtrlStep}
 use Rattle.model.specs.Chmod.{chmodStep}
 use Rattle.model.specs.Pin.{pinStep}
 use Rattle.model.specs.Unpin.{unpinStep}
+use Rattle.model.specs.Drop.{dropStep}
 use Rattle.model.specs.Step.{next}
 
 -- the state of a shape with these values
@@ -23,7 +24,7 @@ abbrev pub filled : Shape → Values → State
 filled h v = record { shape = h; values = v }
 
 pub shape-alone : (h : Shape) (v w : Values) (x : Action) → next (filled h v) x .shape ≡ next (filled h w) x .shape
-unfolding takeOut takeOutPage enter loadStealth accessHistory readStep store writeStep share newStep newSmStep delStep switchStep lswitchStep hcallStep retCtrlStep chmodStep pinStep unpinStep next
+unfolding takeOut takeOutPage enter loadStealth accessHistory readStep store writeStep share newStep newSmStep delStep switchStep lswitchStep hcallStep retCtrlStep chmodStep pinStep unpinStep dropStep next
 shape-alone h v w silent = refl
 shape-alone h v w (read va) = refl
 shape-alone h v w (readHyper va) = refl
@@ -39,3 +40,4 @@ shape-alone h v w retCtrl = refl
 shape-alone h v w chmod = refl
 shape-alone h v w (pin pa k) = refl
 shape-alone h v w (unpin pa) = refl
+shape-alone h v w (drop g) = refl

@@ -10,7 +10,7 @@ use Rattle.laws.specs.Bits.{marks}
 use Rattle.model.specs.Sizes.{pages, addresses, stealth}
 use Rattle.model.specs.Names.{kindData, kindTable}
 use Rattle.model.specs.State.{Shape, active, isPage, kindOf, isCacheable, mapped, here, isMapped}
-use Rattle.model.specs.Records.{Action, Need, nothing, exactly, activeIdle, namedIdle, Row, rowOf, fieldsOf, anyMode, callNone}
+use Rattle.model.specs.Records.{Action, Need, nothing, exactly, activeIdle, namedIdle, namedPending, Row, rowOf, fieldsOf, anyMode, callNone}
 
 -- ---- questions
 
@@ -79,12 +79,13 @@ wrongMode q r = not (eqb (r .mode) anyMode || eqb (r .mode) (q .mode))
 abbrev pub hasCall : Asked → ℕ → Bool
 hasCall q g = not (eqb (q .call g) callNone)
 
--- 4: the pending call is not exactly this one, or there is one where none may be
+-- 4: the pending call is not exactly this one, or there is one where none may be, or none where one is needed
 abbrev pub wrongCall : Asked → Need → ℕ → ℕ → Bool
 wrongCall q nothing a b = false
 wrongCall q (exactly c) a b = not (eqb (q .call (q .active)) c && eqb (q .callA (q .active)) a && eqb (q .callB (q .active)) b)
 wrongCall q activeIdle a b = hasCall q (q .active)
 wrongCall q namedIdle a b = hasCall q a
+wrongCall q namedPending a b = not (hasCall q a)
 
 -- 3 and 4 of an action, from its kind's row
 abbrev pub rowChecks : Asked → Action → List Check → List Check

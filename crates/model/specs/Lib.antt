@@ -21,6 +21,7 @@ pub mod RetCtrl
 pub mod Chmod
 pub mod Pin
 pub mod Unpin
+pub mod Drop
 pub mod Step
 pub mod Run
 pub mod Journal

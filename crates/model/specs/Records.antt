@@ -38,12 +38,13 @@ abbrev pub anyMode : ℕ
 anyMode = 2
 
 -- what a kind asks of pending calls: nothing; that the active guest's is exactly this one, with the record's a and b; that the active guest,
--- or the guest that a names, has none
+-- or the guest that a names, has none; that the guest that a names has one
 pub data Need : Type 0 where
   nothing : Need
   exactly : ℕ → Need
   activeIdle : Need
   namedIdle : Need
+  namedPending : Need
 
 -- a from aFrom on and below aBelow, and b likewise
 pub record Row : Type 0 where
@@ -78,6 +79,7 @@ rows =
     ∷ row waiting activeIdle 1 1  -- chmod
     ∷ row waiting (exactly callPin) physicals pinKinds  -- pin
     ∷ row waiting (exactly callUnpin) physicals 1  -- unpin
+    ∷ row waiting namedPending guests 1  -- drop
     ∷ []
 
 abbrev pub rowOf : ℕ → Row
@@ -112,6 +114,7 @@ pub data Action : Type 0 where
   chmod : Action
   pin : ℕ → ℕ → Action
   unpin : ℕ → Action
+  drop : ℕ → Action
 
 -- ---- the fields of a record
 
@@ -142,6 +145,7 @@ fieldsOf retCtrl = fields 11 0 0 0 0
 fieldsOf chmod = fields 12 0 0 0 0
 fieldsOf (pin pa k) = fields 13 pa k 0 0
 fieldsOf (unpin pa) = fields 14 pa 0 0 0
+fieldsOf (drop g) = fields 15 g 0 0 0
 
 -- ---- actions in range
 
@@ -171,6 +175,7 @@ InRange retCtrl = Unit {0}
 InRange chmod = Unit {0}
 InRange (pin pa k) = (pa < physicals) × (k < pinKinds)
 InRange (unpin pa) = pa < physicals
+InRange (drop g) = g < guests
 
 -- ---- bytes: kind, a, b, call, then a 32-bit value, low byte first
 
@@ -214,7 +219,8 @@ abbrev pub actionOf : Fields → Action
 actionOf f =
     getD
     (silent ∷ read (f .a) ∷ readHyper (f .a) ∷ write (f .a) (f .value) ∷ writeHyper (f .a) (f .value) ∷ new (f .a) (f .b) ∷ newSm (f .b)
-    ∷ del (f .a) ∷ switch (f .a) ∷ lswitch (f .a) ∷ hcall (f .call) (f .a) (f .b) ∷ retCtrl ∷ chmod ∷ pin (f .a) (f .b) ∷ unpin (f .a) ∷ [])
+    ∷ del (f .a) ∷ switch (f .a) ∷ lswitch (f .a) ∷ hcall (f .call) (f .a) (f .b) ∷ retCtrl ∷ chmod ∷ pin (f .a) (f .b) ∷ unpin (f .a)
+    ∷ drop (f .a) ∷ [])
     (f .kind)
     silent
 

@@ -12,9 +12,10 @@ use lib.ListN.{length, replicate}
 use Rattle.laws.specs.Choice.{at}
 use Rattle.laws.specs.Search.{allIn}
 use Rattle.model.specs.Sizes.{stealth}
+use Rattle.model.specs.Names.{waiting}
 use Rattle.model.specs.State.{State, stealthLine}
 use Rattle.model.specs.Fresh.{fresh}
-use Rattle.model.specs.Records.{Action, silent, read, readHyper, write, writeHyper, new, newSm, del, switch, lswitch, hcall, retCtrl, chmod, pin, unpin, encode, wordBytes, callNone, callNew, callDel, callLswitch, callPin, callUnpin}
+use Rattle.model.specs.Records.{Action, silent, read, readHyper, write, writeHyper, new, newSm, del, switch, lswitch, hcall, retCtrl, chmod, pin, unpin, drop, encode, wordBytes, callNone, callNew, callDel, callLswitch, callPin, callUnpin}
 use Rattle.model.specs.Step.{Outcome, numberOf, valueOf}
 use Rattle.model.specs.Run.{Ran, runBy}
 use Rattle.model.specs.Journal.{header, recordsOf, reportOf, played, hasHeader, formRefusal}
@@ -148,7 +149,7 @@ abbrev pub shortRuns : List Sample
 shortRuns =
     row (does silent)
     ∷ row (bad (0 ∷ 0 ∷ 0 ∷ 0 ∷ 0 ∷ 0 ∷ 0 ∷ 0 ∷ 0 ∷ []))
-    ∷ row (bad (15 ∷ 0 ∷ 0 ∷ 0 ∷ 0 ∷ 0 ∷ 0 ∷ 0 ∷ []))
+    ∷ row (bad (16 ∷ 0 ∷ 0 ∷ 0 ∷ 0 ∷ 0 ∷ 0 ∷ 0 ∷ []))
     ∷ row (gets 3 (unpin 15))
     ∷ row (gets 2 (unpin 16))
     ∷ row (gets 6 (read 46))
@@ -302,6 +303,29 @@ checksInOrder =
     ∷ ending (pins 1 0 ++ pins 2 0 ++ unpins 1 ++ pins 3 0) (λ s. eqb (at (s .shape .pages .physical) 3) 9)
     ∷ []
 
+-- ---- calls that the host declines
+
+abbrev pub callIs : ℕ → ℕ → ℕ → ℕ → State → Bool
+callIs g c a b s = eqb (at (s .shape .guests .call) g) c && eqb (at (s .shape .guests .callA) g) a && eqb (at (s .shape .guests .callB) g) b
+
+-- the host has control, and guest g is the active one
+abbrev pub waitsAt : ℕ → State → Bool
+waitsAt g s = eqb (s .shape .guests .mode) waiting && eqb (s .shape .guests .active) g
+
+abbrev pub declines : List Sample
+declines =
+    row (does (hcall callPin 0 0) ++ gets 10 (pin 0 0) ++ gets 4 chmod ++ does (drop 0) ++ gets 4 (pin 0 0) ++ does chmod)
+    -- no such guest; a guest runs; no call, of the active guest or of another
+    ∷ row (gets 2 (drop 4) ++ gets 3 (drop 0) ++ does retCtrl ++ gets 2 (drop 4) ++ gets 4 (drop 0) ++ gets 4 (drop 3))
+    -- a guest's call is left behind and declined from another; that one's own stays, as do the active guest and the mode
+    ∷ row (does (hcall callNew 48 9) ++ does (switch 1) ++ gets 4 (switch 0) ++ does (drop 0) ++ does (switch 0) ++ does chmod ++ gets 3 (drop 0))
+    ∷ ending (does (hcall callNew 48 9) ++ does (switch 1) ++ does chmod ++ does (hcall callPin 5 1) ++ does (drop 0))
+    (λ s. callIs 0 callNone 0 0 s && callIs 1 callPin 5 1 s && waitsAt 1 s)
+    ∷ ending (does (hcall callPin 5 1) ++ does (drop 0)) (λ s. callIs 0 callNone 0 0 s && waitsAt 0 s)
+    -- a b, a call and a value that are not used
+    ∷ row (bad (15 ∷ 0 ∷ 1 ∷ 0 ∷ 0 ∷ 0 ∷ 0 ∷ 0 ∷ []) ++ bad (15 ∷ 0 ∷ 0 ∷ 1 ∷ 0 ∷ 0 ∷ 0 ∷ 0 ∷ []) ++ bad (15 ∷ 0 ∷ 0 ∷ 0 ∷ 0 ∷ 0 ∷ 0 ∷ 1 ∷ []))
+    ∷ []
+
 -- the longest run last
 unfoldable pub samples : List Group
 samples =
@@ -310,7 +334,7 @@ samples =
     ∷ after (nine ++ pins 2 1 ++ changesTable 2) sharingMends
     ∷ after (pins 1 0 ++ hides 1 ++ does (write 7 5)) stealthMends
     ∷ after (pins 1 0 ++ hides 1 ++ does (write 7 5) ++ pins 2 1 ++ changesTable 2) tableMends
-    ∷ after [] (badRecords ++ checksInOrder ++ evicting ++ keyMends ++ pinningAll)
+    ∷ after [] (badRecords ++ checksInOrder ++ declines ++ evicting ++ keyMends ++ pinningAll)
     ∷ []
 
 -- ---- journals: their headers, their lengths at the edges, and the nine records whole

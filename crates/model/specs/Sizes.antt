@@ -66,7 +66,7 @@ byteBound = 2 ^ 8
 
 -- kinds of records; calls, with the call 'none' counted
 abbrev pub kinds : ℕ
-kinds = 15
+kinds = 16
 
 abbrev pub calls : ℕ
 calls = 6

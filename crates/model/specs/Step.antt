@@ -6,7 +6,7 @@ use mathlib.Core.Option.{none, some}
 use Prim.Native.Nat.{ℕ}
 use lib.Dec.{eqb}
 use Rattle.model.specs.State.{Shape, State, mapped, here, present}
-use Rattle.model.specs.Records.{Action, silent, read, readHyper, write, writeHyper, new, newSm, del, switch, lswitch, hcall, retCtrl, chmod, pin, unpin, decode}
+use Rattle.model.specs.Records.{Action, silent, read, readHyper, write, writeHyper, new, newSm, del, switch, lswitch, hcall, retCtrl, chmod, pin, unpin, drop, decode}
 use Rattle.model.specs.Valid.{valid?}
 use Rattle.model.specs.Checks.{Asked, asked, Check, first, rowChecks, lowestFree}
 use Rattle.model.specs.Read.{accessChecks, readStep}
@@ -21,6 +21,7 @@ use Rattle.model.specs.RetCtrl.{retCtrlStep}
 use Rattle.model.specs.Chmod.{chmodStep}
 use Rattle.model.specs.Pin.{pinChecks, pinStep}
 use Rattle.model.specs.Unpin.{unpinChecks, unpinStep}
+use Rattle.model.specs.Drop.{dropStep}
 
 -- ---- refusals
 
@@ -41,6 +42,7 @@ ownChecks q retCtrl = []
 ownChecks q chmod = []
 ownChecks q (pin pa k) = pinChecks q pa
 ownChecks q (unpin pa) = unpinChecks q pa
+ownChecks q (drop g) = []
 
 -- from 3 on
 abbrev pub checks : Asked → Action → List Check
@@ -67,6 +69,7 @@ next s retCtrl = retCtrlStep s
 next s chmod = chmodStep s
 next s (pin pa k) = pinStep s pa k (lowestFree (s .shape .pages .free))
 next s (unpin pa) = unpinStep s pa (here (s .shape) pa)
+next s (drop g) = dropStep s g
 
 -- An accepted read returns the page's present value, every other action 0. A page not cacheable has no line: its value is memory's.
 unfoldable pub value : State → Action → ℕ
@@ -85,6 +88,7 @@ value s retCtrl = 0
 value s chmod = 0
 value s (pin pa k) = 0
 value s (unpin pa) = 0
+value s (drop g) = 0
 
 -- ---- answers
 

@@ -9,8 +9,8 @@ use Rattle.model.specs.Sizes.{kinds}
 use Rattle.numbers.proofs.Others.{Others, none-left}
 use Rattle.model.specs.Records.{fields, actionOf, silent}
 
-pub silent-else : (k a b c v : ℕ) → Others k 14 → silent ≡ actionOf (fields k a b c v)
+pub silent-else : (k a b c v : ℕ) → Others k 15 → silent ≡ actionOf (fields k a b c v)
 silent-else k a b c v r =
     below? k kinds
-    (λ h. ap (λ (x : ℕ). actionOf (fields x a b c v)) (sym (none-left k 14 r (omega arith))))
+    (λ h. ap (λ (x : ℕ). actionOf (fields x a b c v)) (sym (none-left k 15 r (omega arith))))
     (λ h. rw (List·getD-eq-default _ _ h))

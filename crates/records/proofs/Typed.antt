@@ -11,7 +11,7 @@ use Rattle.laws.specs.Choice.{at}
 use Rattle.laws.proofs.Cases.{split}
 use Rattle.laws.proofs.Tests.{true⇔, and⇔}
 use Rattle.model.specs.Sizes.{kinds, pinKinds, recordBytes}
-use Rattle.model.specs.Records.{Action, silent, read, readHyper, write, writeHyper, new, newSm, del, switch, lswitch, hcall, retCtrl, chmod, pin, unpin, rowOf, hasValue, fields, fieldsIn, wordAt, wellFormed, actionOf, decode}
+use Rattle.model.specs.Records.{Action, silent, read, readHyper, write, writeHyper, new, newSm, del, switch, lswitch, hcall, retCtrl, chmod, pin, unpin, drop, rowOf, hasValue, fields, fieldsIn, wordAt, wellFormed, actionOf, decode}
 use Rattle.model.proofs.RuleTests.{within⇔}
 
 abbrev pub KindIn : Action → Type 0
@@ -30,6 +30,7 @@ KindIn retCtrl = Unit {0}
 KindIn chmod = Unit {0}
 KindIn (pin p k) = k < pinKinds
 KindIn (unpin p) = Unit {0}
+KindIn (drop g) = Unit {0}
 
 module _ (a b c v : ℕ) where
   kind-formed : (k : ℕ) → wellFormed (fields k a b c v) ≡ true → KindIn (actionOf (fields k a b c v))
@@ -49,7 +50,8 @@ module _ (a b c v : ℕ) where
   kind-formed (suc (suc (suc (suc (suc (suc (suc (suc (suc (suc (suc (suc (suc zero))))))))))))) e =
       and⇔ (and⇔ (and⇔ (true⇔ (ltb 13 kinds)) (true⇔ (eqb c 0))) (within⇔ (rowOf 13) a b)) (true⇔ (hasValue 13 || eqb v 0)) .0 e .0 .1 .bHigh
   kind-formed (suc (suc (suc (suc (suc (suc (suc (suc (suc (suc (suc (suc (suc (suc zero)))))))))))))) e = tt
-  kind-formed (suc (suc (suc (suc (suc (suc (suc (suc (suc (suc (suc (suc (suc (suc (suc k))))))))))))))) e = tt
+  kind-formed (suc (suc (suc (suc (suc (suc (suc (suc (suc (suc (suc (suc (suc (suc (suc zero))))))))))))))) e = tt
+  kind-formed (suc (suc (suc (suc (suc (suc (suc (suc (suc (suc (suc (suc (suc (suc (suc (suc k)))))))))))))))) e = tt
 
 pub kind-decoded : (l : List ℕ) (x : Action) → decode l ≡ some x → KindIn x
 unfolding decode

@@ -2,12 +2,12 @@
 -- Assumes nothing.
 use mathlib.Core.Option.{Option, none, some}
 use Prim.Native.Nat.{ℕ}
-use Rattle.model.specs.Records.{silent, read, readHyper, write, writeHyper, new, newSm, del, switch, lswitch, hcall, retCtrl, chmod, pin, unpin}
+use Rattle.model.specs.Records.{silent, read, readHyper, write, writeHyper, new, newSm, del, switch, lswitch, hcall, retCtrl, chmod, pin, unpin, drop}
 use Rattle.model.specs.Records as records
 use Rattle.numbers.specs.declared.Guest.{Guest}
 use Rattle.numbers.specs.Calls.{va, pa, callOf, pinKindOf}
 use Rattle.records.specs.declared.Action.{Action}
-use Rattle.records.specs.declared.Action.the-variants.{Silent, Read, ReadHyper, Write, WriteHyper, New, NewSm, Del, Switch, Lswitch, Hcall, RetCtrl, Chmod, Pin, Unpin}
+use Rattle.records.specs.declared.Action.the-variants.{Silent, Read, ReadHyper, Write, WriteHyper, New, NewSm, Del, Switch, Lswitch, Hcall, RetCtrl, Chmod, Pin, Unpin, Drop}
 use Rattle.records.specs.declared.Decoded.{Decoded}
 use Rattle.records.specs.declared.Decoded.the-variants.{Is, Bad}
 
@@ -30,6 +30,7 @@ actionTo retCtrl = RetCtrl
 actionTo chmod = Chmod
 actionTo (pin p k) = Pin (pa p) (pinKindOf k)
 actionTo (unpin p) = Unpin (pa p)
+actionTo (drop g) = Drop (guest g)
 
 abbrev pub decodedOf : Option records.Action → Decoded
 decodedOf none = Bad

@@ -40,14 +40,17 @@ pub const RUNNING: u8 = host::RUNNING;
 // Any mode will do.
 pub const ANY: u8 = 2;
 
-// What is asked of calls: nothing; 1 to 5, exactly this one, with the record's a and b; the active guest, or the guest that a names, has none.
+// What is asked of calls: nothing; 1 to 5, exactly this one, with the record's a and b; the active guest, or the guest that a names, has none; the
+// guest that a names has one.
 pub const NOTHING: u8 = 0;
 
 pub const ACTIVE_IDLE: u8 = 6;
 
 pub const NAMED_IDLE: u8 = 7;
 
-const KINDS: u8 = 15;
+pub const NAMED_PENDING: u8 = 8;
+
+const KINDS: u8 = 16;
 
 const RECORD: usize = reader::RECORD;
 
@@ -67,7 +70,7 @@ const WRITE_HYPER: u8 = 4;
 
 const HCALL: u8 = 10;
 
-const ROWS: [Row; 15] = [
+const ROWS: [Row; 16] = [
     // silent
     Row {
         mode: ANY,
@@ -203,6 +206,15 @@ const ROWS: [Row; 15] = [
         b_from: 0,
         b_below: 1,
     },
+    // drop
+    Row {
+        mode: WAITING,
+        need: NAMED_PENDING,
+        a_from: 0,
+        a_below: GUESTS,
+        b_from: 0,
+        b_below: 1,
+    },
 ];
 
 // The kind whose arguments a call has.
@@ -241,6 +253,7 @@ pub enum Action {
     Chmod,
     Pin(Pa, PinKind),
     Unpin(Pa),
+    Drop(Guest),
 }
 
 pub enum Decoded {
@@ -324,6 +337,7 @@ fn action_of(k: u8, a: u8, b: u8, c: u8, v: u32) -> Action
         12 => Action::Chmod,
         13 => Action::Pin(Pa(a), host::pin_kind_of(b)),
         14 => Action::Unpin(Pa(a)),
+        15 => Action::Drop(Guest(a)),
         _ => Action::Silent,
     }
 }

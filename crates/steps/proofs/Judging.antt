@@ -14,7 +14,7 @@ use Rattle.laws.proofs.Cases.{pick-yes}
 use Rattle.laws.proofs.Tests.{lt⇔}
 use Rattle.model.specs.Sizes.{pages}
 use Rattle.model.specs.State.{State, isPage, mapped, here, present}
-use Rattle.model.specs.Records.{Action, silent, read, readHyper, write, writeHyper, new, newSm, del, switch, lswitch, hcall, retCtrl, chmod, pin, unpin, InRange, Bytes, decode}
+use Rattle.model.specs.Records.{Action, silent, read, readHyper, write, writeHyper, new, newSm, del, switch, lswitch, hcall, retCtrl, chmod, pin, unpin, drop, InRange, Bytes, decode}
 use Rattle.model.specs.Checks.{lowestFree}
 use Rattle.model.specs.Valid.{Valid, valid?}
 use Rattle.model.specs.Read.{readStep}
@@ -121,6 +121,7 @@ module _ {s : State} (v : Valid s) where
   performed-valid (pin pa k) r a =
       pinned-valid s pa k v (lt⇔ (lowestFree (s .shape .pages .free)) pages .1 (lowest-free v (a .isPage) (a .marked) .0))
   performed-valid (unpin pa) r a = let p = here (s .shape) pa in for-page p (unpinStep s pa p) s (is-here (a .there))
+  performed-valid (drop g) r a = refl
 
   pub answered-valid : (x : Action) → Allowed (s .shape) x → answered s x ≡ value s x
   unfolding answered value
@@ -139,6 +140,7 @@ module _ {s : State} (v : Valid s) where
   answered-valid chmod a = refl
   answered-valid (pin pa k) a = refl
   answered-valid (unpin pa) a = refl
+  answered-valid (drop g) a = refl
 
   pub acted-valid : (x : Action) → InRange x → acted s x ≡ act s x
   acted-valid x r =

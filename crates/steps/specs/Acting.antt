@@ -8,7 +8,7 @@ use Prim.Native.Nat.{ℕ}
 use lib.Dec.{eqb}
 use Rattle.laws.specs.Choice.{pick}
 use Rattle.model.specs.State.{State, isPage, mapped, here}
-use Rattle.model.specs.Records.{Action, silent, read, readHyper, write, writeHyper, new, newSm, del, switch, lswitch, hcall, retCtrl, chmod, pin, unpin, decode}
+use Rattle.model.specs.Records.{Action, silent, read, readHyper, write, writeHyper, new, newSm, del, switch, lswitch, hcall, retCtrl, chmod, pin, unpin, drop, decode}
 use Rattle.model.specs.Read.{readStep}
 use Rattle.model.specs.Write.{writeStep}
 use Rattle.model.specs.NewSm.{newSmStep}
@@ -18,6 +18,7 @@ use Rattle.model.specs.Hcall.{hcallStep}
 use Rattle.model.specs.RetCtrl.{retCtrlStep}
 use Rattle.model.specs.Chmod.{chmodStep}
 use Rattle.model.specs.Unpin.{unpinStep}
+use Rattle.model.specs.Drop.{dropStep}
 use Rattle.model.specs.Step.{done, refusal, Outcome, refuse}
 use Rattle.cache.specs.Lines.{found}
 use Rattle.acts.specs.Pinned.{pinned}
@@ -43,6 +44,7 @@ performed s retCtrl = retCtrlStep s
 performed s chmod = chmodStep s
 performed s (pin pa k) = pinned s pa k
 performed s (unpin pa) = onPage (here (s .shape) pa) (unpinStep s pa) s
+performed s (drop g) = dropStep s g
 
 -- what is read at an address, once the line is there: 0 where the table in force leads nowhere
 abbrev pub readAt : State → ℕ → ℕ
@@ -64,6 +66,7 @@ answered s retCtrl = 0
 answered s chmod = 0
 answered s (pin pa k) = 0
 answered s (unpin pa) = 0
+answered s (drop g) = 0
 
 unfoldable pub acted : State → Action → Outcome
 acted s x =

@@ -98,6 +98,7 @@ fn change(h: &mut Host, x: Action)
         Action::Chmod => acts::chmod::chmod(h),
         Action::Pin(b, k) => acts::pin::pin(h, b, k),
         Action::Unpin(b) => unpin(h, b),
+        Action::Drop(g) => acts::drop::drop(h, g),
     }
 }
 

@@ -56,7 +56,10 @@ returns-14 : tie.Need-returns-14
 returns-14 c = rw (c .match .keys14)
 
 returns-15 : tie.Need-returns-15
-returns-15 c =
+returns-15 c = rw (c .match .keys15)
+
+returns-16 : tie.Need-returns-16
+returns-16 c =
     let x = c .before .args in
     ap actionTo (silent-else (x .k) (x .a) (x .b) (x .c) (x .v) (c .match .rest))
 
@@ -80,4 +83,5 @@ action-of-spec =
     returns-12
     returns-13
     returns-14
-    returns-15)
+    returns-15
+    returns-16)

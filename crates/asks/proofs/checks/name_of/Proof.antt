@@ -51,6 +51,9 @@ enum-known-x-10 c = search needs
 enum-known-x-11 : tie.Need-enum-known-x-11
 enum-known-x-11 c = search needs
 
+enum-known-x-12 : tie.Need-enum-known-x-12
+enum-known-x-12 c = search needs
+
 returns : tie.Need-returns
 returns c = sym (ap nameOf (c .enum-told .given .1))
 
@@ -96,6 +99,9 @@ returns-14 c = sym (ap nameOf (c .before .x10 .given .1))
 returns-15 : tie.Need-returns-15
 returns-15 c = sym (ap nameOf (c .before .x11 .given .1))
 
+returns-16 : tie.Need-returns-16
+returns-16 c = sym (ap nameOf (c .before .x12 .given .1))
+
 pub name-of-spec : {M : Type 1} → statement M
 name-of-spec =
     tie.close
@@ -115,6 +121,7 @@ name-of-spec =
     enum-told-4
     enum-known-x-10
     enum-known-x-11
+    enum-known-x-12
     returns
     returns-2
     returns-3
@@ -129,4 +136,5 @@ name-of-spec =
     returns-12
     returns-13
     returns-14
-    returns-15)
+    returns-15
+    returns-16)

@@ -86,6 +86,9 @@ enum-told-4 c = search needs
 enum-told-5 : tie.Need-enum-told-5
 enum-told-5 c = search needs
 
+enum-told-6 : tie.Need-enum-told-6
+enum-told-6 c = search needs
+
 own-is : (h : Shape) {x y : Action} → x ≡ y → first (ownChecks (asked h) (actionFrom y)) ≡ first (ownChecks (asked h) (actionFrom x))
 own-is h e = sym (ap (λ (z : Action). first (ownChecks (asked h) (actionFrom z))) e)
 
@@ -149,6 +152,10 @@ returns-15 : tie.Need-returns-15
 unfolding ownChecks
 returns-15 c = own-is (view (c .before .before .args .h .now) .shape) (c .enum-told5 .given .1)
 
+returns-16 : tie.Need-returns-16
+unfolding ownChecks
+returns-16 c = own-is (view (c .before .before .args .h .now) .shape) (c .enum-told6 .given .1)
+
 pub own-refusal-spec : {M : Type 1} → statement M
 own-refusal-spec =
     tie.close
@@ -178,6 +185,7 @@ own-refusal-spec =
     enum-told-3
     enum-told-4
     enum-told-5
+    enum-told-6
     returns
     returns-2
     returns-3
@@ -192,4 +200,5 @@ own-refusal-spec =
     returns-12
     returns-13
     returns-14
-    returns-15)
+    returns-15
+    returns-16)

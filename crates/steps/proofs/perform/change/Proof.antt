@@ -97,6 +97,12 @@ enum-known-x-12 c = search needs
 unpin-requires : tie.Need-unpin-requires
 unpin-requires c κs = search needs
 
+enum-known-x-13 : tie.Need-enum-known-x-13
+enum-known-x-13 c = search needs
+
+drop-requires : tie.Need-drop-requires
+drop-requires c κs = search needs
+
 told : (s t : State) {x y : Action} → x ≡ y → t ≡ performed s (actionFrom y) → t ≡ performed s (actionFrom x)
 told s t e f = f ∙ sym (ap (λ (z : Action). performed s (actionFrom z)) e)
 
@@ -162,6 +168,10 @@ returns-15 : tie.Need-returns-15
 unfolding performed
 returns-15 c = told (view (c .before .before .before .before .before .args .h .now)) _ (c .before .before .before .x12 .given .1) (c .unpin .ensures)
 
+returns-16 : tie.Need-returns-16
+unfolding performed
+returns-16 c = told (view (c .before .before .before .before .before .args .h .now)) _ (c .before .before .before .x13 .given .1) (c .drop .ensures)
+
 pub change-spec : {M : Type 1} → statement M
 change-spec =
     tie.close
@@ -195,6 +205,8 @@ change-spec =
     pin-requires
     enum-known-x-12
     unpin-requires
+    enum-known-x-13
+    drop-requires
     returns
     returns-2
     returns-3
@@ -209,4 +221,5 @@ change-spec =
     returns-12
     returns-13
     returns-14
-    returns-15)
+    returns-15
+    returns-16)

@@ -7,7 +7,7 @@ use denote.Enum.Declared.{tagOf}
 use types.Run.{OneOf, miss}
 use Rattle.model.specs.State.{State}
 use Rattle.records.specs.declared.Action.{Action}
-use Rattle.records.specs.declared.Action.the-variants.{Silent, Read, ReadHyper, Write, WriteHyper, New, NewSm, Del, Switch, Lswitch, Hcall, RetCtrl, Chmod, Pin, Unpin}
+use Rattle.records.specs.declared.Action.the-variants.{Silent, Read, ReadHyper, Write, WriteHyper, New, NewSm, Del, Switch, Lswitch, Hcall, RetCtrl, Chmod, Pin, Unpin, Drop}
 use Rattle.records.proofs.Action.{the-type}
 use Rattle.host.specs.View.{view}
 use Rattle.asks.specs.Actions.{actionFrom}
@@ -37,7 +37,7 @@ told s t v e = subst (λ (z : Action). Performs s (actionFrom z) v t) (sym e)
 
 -- the kinds that are no read
 abbrev others : List ℕ
-others = 0 ∷ 3 ∷ 4 ∷ 5 ∷ 6 ∷ 7 ∷ 8 ∷ 9 ∷ 10 ∷ 11 ∷ 12 ∷ 13 ∷ 14 ∷ []
+others = 0 ∷ 3 ∷ 4 ∷ 5 ∷ 6 ∷ 7 ∷ 8 ∷ 9 ∷ 10 ∷ 11 ∷ 12 ∷ 13 ∷ 14 ∷ 15 ∷ []
 
 no-value : (s : State) (x : Action) → OneOf others (tagOf the-type x) → 0 ≡ answered s (actionFrom x)
 unfolding answered
@@ -56,6 +56,7 @@ no-value s RetCtrl h = refl
 no-value s Chmod h = refl
 no-value s (Pin b k) h = refl
 no-value s (Unpin b) h = refl
+no-value s (Drop g) h = refl
 
 returns : tie.Need-returns
 unfolding performed answered
