@@ -110,7 +110,7 @@ enum ration_number {
     RATION_REFUSED_STATE = 1,             /* the state is not valid; of a record or of a journal */
     RATION_REFUSED_RECORD = 2,            /* not 8 bytes, unknown kind or call, argument out of range, unused byte not 0 */
     RATION_REFUSED_MODE = 3,              /* a guest's action while the host has control, or the host's while a guest runs */
-    RATION_REFUSED_CALL = 4,              /* the pending call is not exactly this one; chmod, switch: it has one; drop: none */
+    RATION_REFUSED_CALL = 4,              /* the call is not exactly this one; chmod, switch: the guest has one; drop: it has none */
     RATION_REFUSED_RESERVED = 5,          /* reads, writes, new, del: the address is reserved; new: or it is 7 */
     RATION_REFUSED_UNMAPPED = 6,          /* reads, writes: the current table maps nothing there */
     RATION_REFUSED_UNREGISTERED = 7,      /* new, new_sm, lswitch, unpin: the guest has no page at this pa */
