@@ -65,7 +65,9 @@ enum {
 /* What a record does (its kind), its arguments, and who must have control: 'running' is the active guest, 'waiting' the host. On a
  * fresh machine guest 0 is active and running. hcall and ret_ctrl give the host control, and it keeps it until chmod.
  * 'call new' and the like: the active guest's pending call is that one, with the same arguments; doing it clears the call. A refusal
- * leaves the call pending, and nothing else clears it: a guest whose call can never be done does not run again. */
+ * leaves the call pending; until it is done or dropped, its guest does not run. While the host has control, any guest g runs within
+ * three records, whatever its call: drop g if g has one (if it has none, drop is refused, and the others are as before), switch g,
+ * chmod. */
 enum ration_kind {
     RATION_KIND_SILENT = 0,      /* nothing; running or waiting */
     RATION_KIND_READ = 1,        /* answers the value at va a; running */
@@ -81,7 +83,8 @@ enum ration_kind {
     RATION_KIND_RET_CTRL = 11,   /* gives control to the host; running */
     RATION_KIND_CHMOD = 12,      /* lets the active guest run; waiting, and it has no pending call */
     RATION_KIND_PIN = 13,        /* gives the guest a free page at pa a, of kind b (RATION_PIN_..); waiting, call pin */
-    RATION_KIND_UNPIN = 14       /* takes back the page at pa a; waiting, call unpin */
+    RATION_KIND_UNPIN = 14,      /* takes back the page at pa a; waiting, call unpin */
+    RATION_KIND_DROP = 15        /* declines and clears the pending call of guest a, active or not; waiting, and guest a has one */
 };
 
 /* What hcall asks the host for, with the arguments of the record that does it. */
@@ -107,7 +110,7 @@ enum ration_number {
     RATION_REFUSED_STATE = 1,             /* the state is not valid; of a record or of a journal */
     RATION_REFUSED_RECORD = 2,            /* not 8 bytes, unknown kind or call, argument out of range, unused byte not 0 */
     RATION_REFUSED_MODE = 3,              /* a guest's action while the host has control, or the host's while a guest runs */
-    RATION_REFUSED_CALL = 4,              /* the pending call is not exactly this one; chmod, switch: the guest still has one */
+    RATION_REFUSED_CALL = 4,              /* the call is not exactly this one; chmod, switch: the guest has one; drop: it has none */
     RATION_REFUSED_RESERVED = 5,          /* reads, writes, new, del: the address is reserved; new: or it is 7 */
     RATION_REFUSED_UNMAPPED = 6,          /* reads, writes: the current table maps nothing there */
     RATION_REFUSED_UNREGISTERED = 7,      /* new, new_sm, lswitch, unpin: the guest has no page at this pa */

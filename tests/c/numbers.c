@@ -5,7 +5,7 @@
 
 #include "ration.h"
 
-enum { KINDS = RATION_KIND_UNPIN + 1, NUMBERS = RATION_REFUSED_ANSWER_BUFFER + 1, HOST_PAGES = 4 };
+enum { KINDS = RATION_KIND_DROP + 1, NUMBERS = RATION_REFUSED_ANSWER_BUFFER + 1, HOST_PAGES = 4 };
 
 static uint8_t state[RATION_SIZE];
 static uint8_t report[RATION_REPORT];
@@ -78,6 +78,8 @@ static void ranges(void) {
     REFUSES(RECORD, UNPIN, RATION_PHYSICALS, 0);
     REFUSES(RESERVED, READ_HYPER, RATION_VIRTUALS - 1, 0);
     REFUSES(RECORD, READ_HYPER, RATION_VIRTUALS, 0);
+    REFUSES(CALL, DROP, RATION_GUESTS - 1, 0);
+    REFUSES(RECORD, DROP, RATION_GUESTS, 0);
 }
 
 static void reserved_addresses(void) {
@@ -123,7 +125,37 @@ static void kinds(void) {
     READS(READ, RATION_STEALTH, 9);
     ASKS(NONE, 0, 0);
     DOES(CHMOD, 0, 0);
+    ASKS(UNPIN, 0, 0);
+    DOES(DROP, 0, 0);
+    DOES(CHMOD, 0, 0);
     same("after every kind", "valid", ration_valid(state), true);
+}
+
+/* Two guests call, and both calls are declined. Only the named guest's call changes: in the end all is as if they had not called. */
+static void declined(void) {
+    static uint8_t uncalled[RATION_SIZE];
+    ration_fresh(state);
+    DOES(RET_CTRL, 0, 0);
+    DOES(SWITCH, 1, 0);
+    memcpy(uncalled, state, sizeof uncalled);
+    ration_fresh(state);
+    REFUSES(MODE, DROP, 0, 0);
+    ASKS(NEW, 5, 9);
+    DOES(SWITCH, 1, 0);
+    DOES(CHMOD, 0, 0);
+    REFUSES(MODE, DROP, 0, 0);
+    ASKS(PIN, 0, RATION_PIN_TABLE);
+    REFUSES(PLACE_TAKEN, PIN, 0, RATION_PIN_TABLE);
+    REFUSES(RECORD, DROP, 0, 1);
+    REFUSES(CALL, DROP, 2, 0);
+    DOES(DROP, 0, 0);
+    REFUSES(CALL, DROP, 0, 0);
+    REFUSES(CALL, CHMOD, 0, 0);
+    DOES(DROP, 1, 0);
+    REFUSES(MODE, READ, 0, 0);
+    same("after two drops", "as if they had not called", memcmp(state, uncalled, sizeof uncalled) == 0, true);
+    DOES(SWITCH, 0, 0);
+    DOES(CHMOD, 0, 0);
 }
 
 /* A record's refusals, in their order, each on a machine of its own. */
@@ -232,6 +264,7 @@ int main(void) {
         ranges();
         reserved_addresses();
         kinds();
+        declined();
         refusals();
         no_free_page();
         reports();

@@ -52,7 +52,8 @@ pub enum Refusal {
     Record,
     /// 3: a guest's action while the host has control, or the host's while a guest runs.
     Mode,
-    /// 4: the guest did not ask for exactly this; or it is to run, or to become active, and its call still waits.
+    /// 4: the guest did not ask for exactly this; or it is to run, or to become active, and its call still waits; or its call is to be
+    /// dropped, and it has none.
     Call,
     /// 5: the virtual address is reserved, or is the stealth address and needs `new_sm`.
     Reserved,
@@ -139,7 +140,7 @@ impl Refusal {
             Refusal::State => "the host's state is damaged",
             Refusal::Record => "there is no such record, or one of its numbers is out of range",
             Refusal::Mode => "a guest may not do this while the host has control, nor the host while a guest runs",
-            Refusal::Call => "the guest did not ask for exactly this, or it still waits for what it asked for",
+            Refusal::Call => "the guest did not ask for exactly this, or still waits for what it asked for, or has no call to be dropped",
             Refusal::Reserved => "this address is reserved, or it is the stealth address, which new does not map",
             Refusal::Unmapped => "nothing is mapped at this address",
             Refusal::Unregistered => "the guest has no page at this physical address",

@@ -3,7 +3,7 @@
 //! `docs/HOST.md` of the repository has the rules: what each [`Action`] does, and when each [`Refusal`] is given.
 //!
 //! ```
-//! use ration::{Action, Answer, Call, Host, Pa, PinKind, Refusal, Va};
+//! use ration::{Action, Answer, Call, Guest, Host, Pa, PinKind, Refusal, Va};
 //!
 //! let mut host = Host::fresh();
 //! let done = Answer::Done(0);
@@ -15,6 +15,11 @@
 //! let answer = host.act(Action::Read(Va(0)));
 //! assert_eq!(answer, Answer::Refused(Refusal::Unmapped));
 //! assert_eq!(answer.to_string(), "refused 6: nothing is mapped at this address");
+//! // it asks for a page where it has one; the host cannot do that, so it declines, and the guest runs on
+//! assert_eq!(host.act(Action::Hcall(Call::Pin(Pa(1), PinKind::Data))), done);
+//! assert_eq!(host.act(Action::Pin(Pa(1), PinKind::Data)), Answer::Refused(Refusal::PlaceTaken));
+//! assert_eq!(host.act(Action::Drop(Guest(0))), done);
+//! assert_eq!(host.act(Action::Chmod), done);
 //! ```
 #![warn(missing_docs)]
 

@@ -106,6 +106,10 @@ pub enum Action {
     Pin(Pa, PinKind),
     /// The host takes a page back, as the active guest asked.
     Unpin(Pa),
+    /// The host declines what a guest asked for, active or not, and keeps control: the guest's call is cleared, and nothing else
+    /// changes. A guest whose call is neither done nor declined does not run; with this, [`Action::Switch`] and [`Action::Chmod`]
+    /// any guest does, whatever it asked for.
+    Drop(Guest),
 }
 
 impl Action {
@@ -130,6 +134,7 @@ impl Action {
             Action::Chmod => (12, 0, 0),
             Action::Pin(pa, page) => (13, pa.0, page.number()),
             Action::Unpin(pa) => (14, pa.0, 0),
+            Action::Drop(guest) => (15, guest.0, 0),
         };
         let value = match self {
             Action::Write(_, value) | Action::WriteHyper(_, value) => value.to_le_bytes(),
@@ -205,6 +210,7 @@ impl fmt::Display for Action {
             Action::Chmod => f.write_str("chmod"),
             Action::Pin(pa, kind) => write!(f, "pin {pa} {kind}"),
             Action::Unpin(pa) => write!(f, "unpin {pa}"),
+            Action::Drop(guest) => write!(f, "drop {guest}"),
         }
     }
 }

@@ -33,7 +33,7 @@ fn all_done(host: &mut Host, actions: &[Action]) {
 fn script() -> Vec<(Action, u32)> {
     let (page, table, va) = (Pa(2), Pa(4), Va(3));
     let quiet = |actions: Vec<Action>| actions.into_iter().map(|action| (action, 0)).collect();
-    let parts: [Vec<(Action, u32)>; 15] = [
+    let parts: [Vec<(Action, u32)>; 16] = [
         quiet(vec![Action::Silent]),
         quiet(pinned(page, PinKind::Data)),
         quiet(served(Call::New(va, page), Action::New(va, page))),
@@ -53,6 +53,7 @@ fn script() -> Vec<(Action, u32)> {
         quiet(served(Call::Lswitch(Pa(0)), Action::Lswitch(Pa(0)))),
         vec![(Action::Read(Va::STEALTH), 9)],
         quiet(vec![Action::Hcall(Call::None), Action::Chmod]),
+        quiet(served(Call::Unpin(Pa(0)), Action::Drop(Guest(0)))),
     ];
     parts.concat()
 }
@@ -65,7 +66,7 @@ fn every_kind_is_accepted() {
         assert_eq!(host.act(action), Answer::Done(value), "{action}");
         kinds.insert(action.record()[0]);
     }
-    assert!(kinds.into_iter().eq(0..=14));
+    assert!(kinds.into_iter().eq(0..=15));
     assert!(host.valid());
 }
 
@@ -79,6 +80,31 @@ fn the_same_as_a_journal() {
     let answered =
         answers.chunks_exact(ANSWER).map(|bytes| Answer::from_bytes(bytes.try_into().unwrap()));
     assert!(answered.eq(values.into_iter().map(Answer::Done)));
+}
+
+/// The host has control, the active guest is this one, and the guests whose bits are set have calls that cannot be served.
+fn called(active: u8, callers: u8) -> Host {
+    let mut host = Host::fresh();
+    all_done(&mut host, &[Action::RetCtrl]);
+    for guest in (1..=4).map(|turn| (active + turn) % 4) {
+        let call = if callers & 1 << guest != 0 { Call::New(Va(5), Pa(9)) } else { Call::None };
+        all_done(&mut host, &[Action::Switch(Guest(guest)), Action::Chmod, Action::Hcall(call)]);
+    }
+    host
+}
+
+/// Whichever guest is active and whichever have calls: a drop leaves what there would be without that call, and then the guest runs.
+#[test]
+fn any_guest_runs_within_three_records() {
+    for (active, guest, callers) in (0..=255).map(|n: u8| (n % 4, n / 4 % 4, n / 16)) {
+        let mut host = called(active, callers);
+        let has_call = callers & 1 << guest != 0;
+        let answer = if has_call { Answer::Done(0) } else { Answer::Refused(Refusal::Call) };
+        let case = format!("guest {active} active, drop {guest}, calls {callers:04b}");
+        assert_eq!(host.act(Action::Drop(Guest(guest))), answer, "{case}");
+        assert!(host == called(active, callers & !(1 << guest)), "{case}");
+        all_done(&mut host, &[Action::Switch(Guest(guest)), Action::Chmod, Action::RetCtrl]);
+    }
 }
 
 /// A refusal, what is done before on the fresh machine, and the action that is refused.
@@ -113,6 +139,14 @@ fn refusals() -> Vec<(Refusal, Vec<Action>, Action)> {
             Action::NewSm(Pa(1)),
         ),
         (Refusal::InUse, asked(Call::Unpin(Pa(0))), Action::Unpin(Pa(0))),
+        (Refusal::Record, asked(Call::Del(Va(1))), Action::Drop(Guest(4))),
+        (
+            Refusal::Mode,
+            [asked(Call::Del(Va(1))), vec![Action::Switch(Guest(1)), Action::Chmod]].concat(),
+            Action::Drop(Guest(0)),
+        ),
+        (Refusal::Call, vec![Action::RetCtrl], Action::Drop(Guest(0))),
+        (Refusal::Call, asked(Call::Del(Va(1))), Action::Drop(Guest(1))),
     ]
 }
 
@@ -178,9 +212,14 @@ fn every_refusal_is_given() {
 #[test]
 fn any_bytes_are_judged() {
     let mut host = Host::fresh();
-    for bytes in
-        [&[][..], &[0; RECORD - 1], &[0; RECORD + 1], &[15, 0, 0, 0, 0, 0, 0, 0], &[255; RECORD]]
-    {
+    for bytes in [
+        &[][..],
+        &[0; RECORD - 1],
+        &[0; RECORD + 1],
+        &[16, 0, 0, 0, 0, 0, 0, 0],
+        &[255; RECORD],
+        &[15, 0, 1, 0, 0, 0, 0, 0],
+    ] {
         assert_eq!(host.step(bytes), Answer::Refused(Refusal::Record), "{bytes:?}");
     }
     assert_eq!(host.step(&[0; RECORD]), Answer::Done(0));

@@ -3,7 +3,7 @@
 use ration::{journal, Action, Call, Guest, Pa, PinKind, Va, HEADER, RECORD};
 
 /// Every action and every call. No two arguments of a row are equal, nor two bytes of a value, so that none can stand for another.
-const ROWS: [(Action, [u8; RECORD], &str); 22] = [
+const ROWS: [(Action, [u8; RECORD], &str); 23] = [
     (Action::Silent, [0, 0, 0, 0, 0, 0, 0, 0], "silent"),
     (Action::Read(Va(41)), [1, 41, 0, 0, 0, 0, 0, 0], "read 41"),
     (Action::ReadHyper(Va(41)), [2, 41, 0, 0, 0, 0, 0, 0], "read_hyper 41"),
@@ -30,6 +30,7 @@ const ROWS: [(Action, [u8; RECORD], &str); 22] = [
     (Action::Pin(Pa(9), PinKind::Data), [13, 9, 0, 0, 0, 0, 0, 0], "pin 9 data"),
     (Action::Pin(Pa(9), PinKind::Table), [13, 9, 1, 0, 0, 0, 0, 0], "pin 9 table"),
     (Action::Unpin(Pa(9)), [14, 9, 0, 0, 0, 0, 0, 0], "unpin 9"),
+    (Action::Drop(Guest(3)), [15, 3, 0, 0, 0, 0, 0, 0], "drop 3"),
 ];
 
 #[test]
@@ -51,7 +52,7 @@ fn every_kind_and_every_call_has_a_row() {
     let met = |place: usize| {
         ROWS.iter().map(|(_, record, _)| record[place]).collect::<std::collections::BTreeSet<u8>>()
     };
-    assert!(met(0).into_iter().eq(0..=14));
+    assert!(met(0).into_iter().eq(0..=15));
     assert!(met(3).into_iter().eq(0..=5));
 }
 
