@@ -112,7 +112,7 @@ fn near_journals_meet_every_refusal_of_every_kind() {
             met.iter().filter(|pair| pair.0 == kind as u8).map(|pair| pair.1).collect();
         assert_eq!(of_kind, *numbers, "kind {kind}");
     }
-    assert!(met.iter().filter(|pair| pair.0 > 14).all(|pair| pair.1 == 2));
+    assert!(met.iter().filter(|pair| pair.0 > 15).all(|pair| pair.1 == 2));
 }
 
 /// What happened in a run, counted.
