@@ -2,13 +2,15 @@
 //!
 //! Most come from an accepted record with one field changed. Refusals 7 to 12 (and
 //! 5 of new) need a call that can never be served, after which the guest is stuck
-//! until it is dropped; a journal has four of those, of which some are dropped, and
-//! seeds take turns.
+//! until it is dropped. A journal has four of those, of which some are dropped at
+//! once, and seeds take turns; at its end guests come back and there are more.
 
 use crate::gen::deep::{access, one, pin, run_phase, stealth, Phase};
 use crate::gen::driver::Driver;
 use crate::numbers::{GuestId, Virt};
 use crate::record::{encode, Action, Call};
+
+const TURNS: [u8; 6] = [7, 8, 9, 10, 12, 5];
 
 /// Room that filling all pages needs, near misses included.
 const ROOM_TO_FILL: usize = 420;
@@ -36,9 +38,8 @@ pub fn records(seed: u64, count: usize) -> Vec<[u8; 8]> {
 
 /// Four numbers out of 7 to 12 and 5, by turns; 11 first, where there is room for it.
 fn wanted_numbers(driver: &mut Driver) -> Vec<u8> {
-    let turns = [7, 8, 9, 10, 12, 5];
-    let from = driver.rng.below(turns.len());
-    let mut wanted: Vec<u8> = (0..4).map(|i| turns[(from + i) % turns.len()]).collect();
+    let from = driver.rng.below(TURNS.len());
+    let mut wanted: Vec<u8> = (0..4).map(|i| TURNS[(from + i) % TURNS.len()]).collect();
     if driver.limit >= ROOM_TO_FILL && driver.rng.percent(40) {
         wanted[0] = 11;
     }
@@ -129,6 +130,10 @@ fn come_back(driver: &mut Driver) {
 fn aftermath(driver: &mut Driver) {
     let stuck = GuestId::all().all(|g| driver.has_call(g) || g == driver.guest());
     if !stuck || !driver.has_call(driver.guest()) {
+        if driver.rng.percent(12) {
+            let number = TURNS[driver.rng.below(TURNS.len())];
+            return strand(driver, number);
+        }
         return one(driver, Phase::Build);
     }
     let mapped = driver.mapped();
