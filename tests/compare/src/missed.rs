@@ -11,6 +11,8 @@ type Records = &'static [[u8; 4]];
 const ASK: [u8; 4] = [10, 9, 0, 2];
 const STOP: [u8; 4] = [11, 0, 0, 0];
 const SWITCH: [u8; 4] = [8, 2, 0, 0];
+/// Refused, so that guest 2 stays active.
+const NO_SWITCH: [u8; 4] = [8, 4, 0, 0];
 const RUN: [u8; 4] = [12, 0, 0, 0];
 
 /// Runs that each end with a drop, and what is missing without them.
@@ -19,7 +21,7 @@ const DROPS: [(Records, &str); 6] = [
     (&[ASK, SWITCH, [15, 0, 0, 0]], "drop of another guest never got 0"),
     (&[STOP, SWITCH, RUN, [15, 2, 0, 0]], "drop of the active guest never got 3"),
     (&[STOP, SWITCH, RUN, [15, 0, 0, 0]], "drop of another guest never got 3"),
-    (&[STOP, SWITCH, [15, 2, 0, 0]], "drop of the active guest never got 4"),
+    (&[STOP, SWITCH, NO_SWITCH, [15, 2, 0, 0]], "drop of the active guest never got 4"),
     (&[STOP, SWITCH, [15, 0, 0, 0]], "drop of another guest never got 4"),
 ];
 
