@@ -2,27 +2,30 @@
 
 use second::rng::Rng;
 
-type Records = Vec<[u8; 8]>;
+pub type Records = Vec<[u8; 8]>;
 
-fn record(kind: u8, a: u8, b: u8, call: u8) -> [u8; 8] {
+pub fn record(kind: u8, a: u8, b: u8, call: u8) -> [u8; 8] {
     [kind, a, b, call, 0, 0, 0, 0]
 }
 
-const RET_CTRL: [u8; 8] = [11, 0, 0, 0, 0, 0, 0, 0];
-const CHMOD: [u8; 8] = [12, 0, 0, 0, 0, 0, 0, 0];
+pub const RET_CTRL: [u8; 8] = [11, 0, 0, 0, 0, 0, 0, 0];
+pub const CHMOD: [u8; 8] = [12, 0, 0, 0, 0, 0, 0, 0];
 
 /// The action of each call, from 1 on.
 const ACTIONS: [u8; 5] = [5, 7, 9, 13, 14];
 
-/// Call, action, and the guest runs again.
-fn serve(out: &mut Records, call: u8, a: u8, b: u8) {
-    out.push(record(10, a, b, call));
+/// The record that serves a call.
+pub fn action(call: u8, a: u8, b: u8) -> [u8; 8] {
     let kind = if call == 1 && a == 7 { 6 } else { ACTIONS[call as usize - 1] };
-    out.push(record(kind, a, b, 0));
-    out.push(CHMOD);
+    record(kind, a, b, 0)
 }
 
-fn new(out: &mut Records, va: u8, pa: u8) {
+/// Call, action, and the guest runs again.
+fn serve(out: &mut Records, call: u8, a: u8, b: u8) {
+    out.extend([record(10, a, b, call), action(call, a, b), CHMOD]);
+}
+
+pub fn new(out: &mut Records, va: u8, pa: u8) {
     serve(out, 1, va, pa);
 }
 
@@ -34,7 +37,7 @@ fn lswitch(out: &mut Records, pa: u8) {
     serve(out, 3, pa, 0);
 }
 
-fn pin(out: &mut Records, pa: u8, table: bool) {
+pub fn pin(out: &mut Records, pa: u8, table: bool) {
     serve(out, 4, pa, table as u8);
 }
 
@@ -46,17 +49,22 @@ fn switch(out: &mut Records, guest: u8) {
     out.extend([RET_CTRL, record(8, guest, 0, 0), CHMOD]);
 }
 
-fn write(out: &mut Records, va: u8, value: u32) {
+/// The guest runs, whatever calls there are and whichever guest is active.
+pub fn come(out: &mut Records, guest: u8) {
+    out.extend([RET_CTRL, record(15, guest, 0, 0), record(8, guest, 0, 0), CHMOD]);
+}
+
+pub fn write(out: &mut Records, va: u8, value: u32) {
     let v = value.to_le_bytes();
     out.push([3, va, 0, 0, v[0], v[1], v[2], v[3]]);
 }
 
-fn read(out: &mut Records, va: u8) {
+pub fn read(out: &mut Records, va: u8) {
     out.push(record(1, va, 0, 0));
 }
 
 /// Scripts that are accepted whatever went before; late in the run now and then one that
-/// may not be, and a guest whose call is refused is stuck.
+/// may not be, and a guest whose call is refused is stuck until it comes back.
 pub fn scripts(seed: u64, count: usize) -> Records {
     let mut rng = Rng::new(seed ^ 0x0062_6C69_6E64);
     let mut out = Vec::new();
@@ -70,6 +78,7 @@ pub fn scripts(seed: u64, count: usize) -> Records {
         let late = out.len() > count / 3 * 2;
         match rng.below(80) {
             0 if late => risky(&mut out, &mut rng),
+            1 if late && rng.percent(50) => come(&mut out, rng.below(4) as u8),
             0..=20 => careful(&mut out, &mut rng, 1 + seed as usize % 4),
             21..=50 => write(&mut out, some_address(&mut rng), rng.draw() as u32),
             _ => read(&mut out, some_address(&mut rng)),
@@ -119,7 +128,7 @@ fn risky(out: &mut Records, rng: &mut Rng) {
         2 => pin(out, pa, rng.percent(50)),
         3 => lswitch(out, pa),
         4 => serve(out, 1 + rng.below(5) as u8, va, pa),
-        _ => out.push(record(rng.below(15) as u8, va, pa, rng.below(6) as u8)),
+        _ => out.push(record(rng.below(17) as u8, va, pa, rng.below(6) as u8)),
     }
 }
 
@@ -177,6 +186,7 @@ fn give_and_take(out: &mut Records, rng: &mut Rng) {
 
 /// The last guest asks for a 57th page and is stuck; after one unpin of another a pin
 /// passes. Then each gets stuck: at an address that is taken, or by its current table.
+/// At the end all of them come back.
 fn too_many(out: &mut Records, order: &[u8], rng: &mut Rng) {
     switch(out, order[3]);
     pin(out, 15, rng.percent(50));
@@ -190,6 +200,10 @@ fn too_many(out: &mut Records, order: &[u8], rng: &mut Rng) {
             1 => unpin(out, 0),
             _ => move_house(out),
         }
+    }
+    for guest in order.iter().rev() {
+        come(out, *guest);
+        use_page(out, 2, rng.draw() as u32);
     }
 }
 

@@ -14,16 +14,18 @@ pub fn records(seed: u64, count: usize) -> Vec<[u8; 8]> {
     driver.misses = [0, 8, 30][seed as usize % 3];
     let guests = 1 + seed as usize % 4;
     while !driver.is_full() {
-        match driver.rng.below(20) {
+        match driver.rng.below(22) {
             0..=9 => access(&mut driver),
             10..=15 => serve(&mut driver),
             16 | 17 => switch(&mut driver, guests),
             18 => {
                 driver.run_guest();
             }
-            _ => {
+            19 => {
                 driver.stop_guest();
             }
+            20 => leave(&mut driver, guests),
+            _ => decline(&mut driver),
         }
     }
     driver.records
@@ -82,5 +84,26 @@ fn switch(driver: &mut Driver, guests: usize) {
     if driver.stop_guest() {
         let guest = GuestId::new(driver.rng.below(guests) as u8).expect("in range");
         driver.accept(Action::Switch { guest });
+    }
+}
+
+/// A call that nobody serves, and perhaps another guest goes on.
+fn leave(driver: &mut Driver, guests: usize) {
+    let call = some_call(driver);
+    if driver.run_guest() {
+        driver.accept(Action::Hcall(Some(call)));
+        switch(driver, guests);
+    }
+}
+
+/// A call dropped, whoever has it; where near misses are wanted, also a drop that may be refused.
+fn decline(driver: &mut Driver) {
+    if driver.misses > 0 && driver.rng.percent(40) {
+        let guest = driver.rng.below(5) as u8;
+        driver.give([15, guest, 0, 0, 0, 0, 0, 0]);
+    }
+    let with_call: Vec<GuestId> = GuestId::all().filter(|g| driver.has_call(*g)).collect();
+    if let Some(guest) = driver.rng.pick(&with_call).filter(|_| driver.stop_guest()) {
+        driver.accept(Action::Drop { guest });
     }
 }

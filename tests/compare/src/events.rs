@@ -3,6 +3,7 @@
 
 use second::{decode, fresh, step, Action, Mach, State, HEADER, STEALTH};
 
+use crate::calls::{self, Calls};
 use crate::journals::Journal;
 
 const NAMES: [&str; 17] = [
@@ -26,7 +27,10 @@ const NAMES: [&str; 17] = [
 ];
 
 #[derive(Default)]
-pub struct Events([usize; NAMES.len()]);
+pub struct Events {
+    steps: [usize; NAMES.len()],
+    calls: [usize; calls::NAMES.len()],
+}
 
 struct Passage<'a> {
     action: Action,
@@ -36,33 +40,41 @@ struct Passage<'a> {
 
 impl Events {
     pub fn watch(&mut self, journals: &[Journal]) {
-        let runs = ["deep", "near", "crowd", "blind", "fill"];
+        let runs = ["deep", "near", "crowd", "blind", "fill", "declined"];
         for journal in journals.iter().filter(|j| runs.contains(&j.profile)) {
-            let mut state = fresh();
+            let (mut state, mut calls) = (fresh(), Calls::default());
             for record in journal.bytes[HEADER.len()..].chunks_exact(8) {
                 let before = state.clone();
-                if let (0, Some(action)) = (step(&mut state, record).0, decode(record)) {
-                    self.note(&Passage { action, before: &before, after: &state });
+                let number = step(&mut state, record).0;
+                add(&mut self.calls, &calls.note(record, number, &before));
+                if let (0, Some(action)) = (number, decode(record)) {
+                    let passage = Passage { action, before: &before, after: &state };
+                    add(&mut self.steps, &passage.happened());
                 }
             }
         }
     }
 
-    fn note(&mut self, p: &Passage) {
-        for (count, happened) in self.0.iter_mut().zip(p.happened()) {
-            *count += happened as usize;
-        }
+    fn all(&self) -> impl Iterator<Item = (&str, usize)> + '_ {
+        let names = NAMES.into_iter().chain(calls::NAMES);
+        names.zip(self.steps.into_iter().chain(self.calls))
     }
 
     pub fn print(&self) {
-        for (name, count) in NAMES.iter().zip(self.0) {
+        for (name, count) in self.all() {
             println!("{count:>8} {name}");
         }
     }
 
     pub fn missing(&self) -> Vec<String> {
-        let none = NAMES.iter().zip(self.0).filter(|(_, count)| *count == 0);
+        let none = self.all().filter(|(_, count)| *count == 0);
         none.map(|(name, _)| format!("never: {name}")).collect()
+    }
+}
+
+fn add(counts: &mut [usize], happened: &[bool]) {
+    for (count, happened) in counts.iter_mut().zip(happened) {
+        *count += *happened as usize;
     }
 }
 

@@ -3,7 +3,7 @@
 use second::rng::Rng;
 use second::{gen, HEADER};
 
-use crate::{blind, crowd};
+use crate::{blind, crowd, declined};
 
 pub struct Journal {
     pub profile: &'static str,
@@ -12,7 +12,7 @@ pub struct Journal {
 }
 
 /// Profiles and how many journals each has.
-pub const PROFILES: [(&str, u64); 9] = [
+pub const PROFILES: [(&str, u64); 10] = [
     ("deep", 90),
     ("near", 200),
     ("noise", 60),
@@ -22,6 +22,7 @@ pub const PROFILES: [(&str, u64); 9] = [
     ("lengths", LENGTHS),
     ("headers", 64),
     ("garbage", 100),
+    ("declined", 40),
 ];
 
 /// Bytes of the longest journal that passes.
@@ -48,6 +49,7 @@ pub fn journal(profile: &str, seed: u64) -> Vec<u8> {
         "lengths" => of_length(seed),
         "headers" => wrong_header(seed),
         "garbage" => garbage(seed),
+        "declined" => with_header(&declined::scripts(seed, turn(&[300, 1000, 120])).concat()),
         _ => Vec::new(),
     }
 }

@@ -2,10 +2,13 @@
 //! runs with one byte of ours spoiled, which must stop there; a journal by profile and seed.
 
 mod blind;
+mod calls;
 mod crowd;
+mod declined;
 mod difference;
 mod events;
 mod journals;
+mod missed;
 mod plan;
 mod programs;
 mod self_test;
@@ -62,7 +65,7 @@ fn show(profile: &str, seed: &str) -> Result<(), String> {
 }
 
 /// Walked record by record.
-const WALKED: [(&str, u64); 8] = [
+const WALKED: [(&str, u64); 9] = [
     ("deep", 2),
     ("deep", 6),
     ("near", 2),
@@ -71,6 +74,7 @@ const WALKED: [(&str, u64); 8] = [
     ("crowd", 4),
     ("fill", 3),
     ("noise", 1),
+    ("declined", 0),
 ];
 
 fn everything(probe: Program, rpj: Option<Program>) -> Result<(), String> {

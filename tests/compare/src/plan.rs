@@ -129,13 +129,14 @@ fn strike(state: &State, rng: &mut Rng) -> Vec<u8> {
 }
 
 fn judged(profile: &'static str, seed: u64, machine: Vec<u8>, rng: &mut Rng) -> Item {
-    let record = match rng.below(8) {
+    let record = match rng.below(9) {
         0 => vec![0; 8],
         1 => (0..rng.below(17)).map(|_| rng.byte()).collect(),
-        2 => vec![rng.below(15) as u8; rng.below(17)],
+        2 => vec![rng.below(17) as u8; rng.below(17)],
         3 | 4 => vec![11 + rng.below(2) as u8, 0, 0, 0, 0, 0, 0, 0],
         5 => vec![8, rng.below(4) as u8, 0, 0, 0, 0, 0, 0],
         6 => call_of(&machine, rng),
+        7 => vec![15, rng.below(5) as u8, 0, 0, 0, 0, 0, 0],
         _ => vec![1 + rng.below(4) as u8, rng.below(18) as u8, 0, 0, 0, 0, 0, 0],
     };
     Item { profile, seed, task: Task::Judge { machine, record } }
@@ -145,6 +146,6 @@ fn judged(profile: &'static str, seed: u64, machine: Vec<u8>, rng: &mut Rng) -> 
 fn call_of(machine: &[u8], rng: &mut Rng) -> Vec<u8> {
     let guest = rng.below(4);
     let [call, a, b] = [4364, 4368, 4372].map(|field| machine[field + guest]);
-    let kind = [0, 5, 7, 9, 13, 14].get(call as usize).copied().unwrap_or(15);
+    let kind = [0, 5, 7, 9, 13, 14].get(call as usize).copied().unwrap_or(16);
     vec![kind, a, b, 0, 0, 0, 0, 0]
 }

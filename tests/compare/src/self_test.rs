@@ -4,7 +4,7 @@ use crate::journals::{self, Journal};
 use crate::programs::Program;
 use crate::tally::Tally;
 use crate::task::Item;
-use crate::{difference, plan, programs, same, Spot};
+use crate::{difference, missed, plan, programs, same, Spot};
 
 /// A few tasks of each form.
 fn items() -> Vec<Item> {
@@ -42,6 +42,7 @@ pub fn run(probe: Program, rpj: Option<Program>) -> Result<(), String> {
         return Err("a run that meets nothing passes".into());
     }
     println!("{seen} changed bytes, each of them seen");
+    println!("{} counts left out, each of them missed", missed::each()?);
     Ok(())
 }
 

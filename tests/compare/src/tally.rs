@@ -3,7 +3,7 @@
 use crate::task::{Task, RULES, VERDICT};
 
 /// Each kind with the numbers that the tables of docs/HOST.md let it get, but for 1.
-pub const KINDS: [(&str, &[usize]); 15] = [
+pub const KINDS: [(&str, &[usize]); 16] = [
     ("silent", &[0, 2]),
     ("read", &[0, 2, 3, 5, 6]),
     ("read_hyper", &[0, 2, 3, 5, 6]),
@@ -19,14 +19,32 @@ pub const KINDS: [(&str, &[usize]); 15] = [
     ("chmod", &[0, 2, 3, 4]),
     ("pin", &[0, 2, 3, 4, 10, 11]),
     ("unpin", &[0, 2, 3, 4, 7, 12]),
+    ("drop", &[0, 2, 3, 4]),
 ];
 
 const NUMBERS: usize = 16;
 
+const SWITCH: u8 = 8;
+const DROP: u8 = 15;
+/// Kinds from here on are none.
+const NO_KIND: u8 = KINDS.len() as u8;
+
+/// Whom a drop names, and the numbers that each must have got; 2 asks nothing of the guest.
+const NAMED: [&str; 2] = ["the active guest", "another guest"];
+const OF_NAMED: [usize; 3] = [0, 3, 4];
+
+/// Where a machine has its active guest (docs/STATE.md).
+const ACTIVE: usize = 4376;
+
+/// Numbers that no row of the kinds has.
+const OF_NO_KIND: [usize; 4] = [1, 13, 14, 15];
+
 #[derive(Default)]
 pub struct Tally {
     /// Answers by kind of the record, the last for bytes that have none, and number.
-    answers: [[usize; NUMBERS]; 16],
+    answers: [[usize; NUMBERS]; 17],
+    /// Answers to drop by whom it names and number.
+    drops: [[usize; NUMBERS]; 2],
     /// Verdicts of whole journals by number.
     verdicts: [usize; NUMBERS],
     broken: [usize; 10],
@@ -38,28 +56,61 @@ pub struct Tally {
 }
 
 impl Tally {
+    /// Everything met once.
+    pub fn full() -> Tally {
+        let mut full = Tally::default();
+        full.needed().into_iter().for_each(|count| *count = 1);
+        full
+    }
+
+    /// Without the answers to drop by whom it names.
+    pub fn without_drops(self) -> Tally {
+        Tally { drops: Default::default(), ..self }
+    }
+
+    /// The counts of which none may be 0.
+    pub fn needed(&mut self) -> Vec<&mut usize> {
+        let mut needed = Vec::new();
+        for ((_, numbers), row) in KINDS.iter().zip(&mut self.answers) {
+            needed.extend(row.iter_mut().enumerate().filter(|(n, _)| numbers.contains(n)));
+        }
+        for row in &mut self.drops {
+            needed.extend(row.iter_mut().enumerate().filter(|(n, _)| OF_NAMED.contains(n)));
+        }
+        let verdicts = self.verdicts.iter_mut().enumerate();
+        needed.extend(verdicts.filter(|(n, _)| OF_NO_KIND.contains(n)));
+        needed.extend(self.alone.iter_mut().enumerate());
+        needed.into_iter().map(|(_, count)| count).collect()
+    }
+
     pub fn note(&mut self, task: &Task, ours: &[u8]) {
         match task {
-            Task::Run { journal, .. } => self.note_run(journal, ours),
-            Task::Judge { record, .. } => self.note_judgement(record, ours),
+            Task::Run { machine, journal, .. } => {
+                let active = machine.as_ref().map_or(0, |machine| machine[ACTIVE]);
+                self.note_run(active, journal, ours);
+            }
+            Task::Judge { machine, record } => self.note_judgement(machine[ACTIVE], record, ours),
         }
     }
 
-    fn note_run(&mut self, journal: &[u8], ours: &[u8]) {
+    fn note_run(&mut self, mut active: u8, journal: &[u8], ours: &[u8]) {
         self.journals += 1;
         self.verdicts[ours[0] as usize % NUMBERS] += 1;
         if ours[0] == 0 {
             let records = journal[8..].chunks_exact(8);
             self.records += records.len();
             for (record, answer) in records.zip(ours[VERDICT..].chunks(8)) {
-                self.note_answer(record, answer[0]);
+                self.note_answer(active, record, answer[0]);
+                if (record[0], answer[0]) == (SWITCH, 0) {
+                    active = record[1];
+                }
             }
         }
     }
 
-    fn note_judgement(&mut self, record: &[u8], ours: &[u8]) {
+    fn note_judgement(&mut self, active: u8, record: &[u8], ours: &[u8]) {
         self.states += 1;
-        self.note_answer(record, ours[RULES]);
+        self.note_answer(active, record, ours[RULES]);
         self.valid += ours[10] as usize;
         let broken: Vec<usize> = (0..10).filter(|rule| ours[*rule] == 0).collect();
         for rule in &broken {
@@ -70,9 +121,14 @@ impl Tally {
         }
     }
 
-    fn note_answer(&mut self, record: &[u8], number: u8) {
-        let kind = record.first().map_or(15, |kind| (*kind).min(15));
-        self.answers[kind as usize][number as usize % NUMBERS] += 1;
+    fn note_answer(&mut self, active: u8, record: &[u8], number: u8) {
+        let number = number as usize % NUMBERS;
+        let kind = record.first().map_or(NO_KIND, |kind| (*kind).min(NO_KIND));
+        self.answers[kind as usize][number] += 1;
+        if kind == DROP && OF_NAMED.contains(&number) {
+            let other = record.get(1) != Some(&active);
+            self.drops[other as usize][number] += 1;
+        }
     }
 
     /// How often a number was given, to a record or to a journal.
@@ -87,6 +143,10 @@ impl Tally {
         let names = KINDS.iter().map(|(name, _)| *name).chain(["no kind"]);
         for (name, row) in names.zip(&self.answers) {
             println!("{name:<12}{}", cells(&row[..13]));
+        }
+        for (named, row) in NAMED.iter().zip(&self.drops) {
+            let counts = OF_NAMED.map(|number| format!("{number}: {}", row[number]));
+            println!("drop of {named:<16} {}", counts.join("  "));
         }
         let numbers: Vec<usize> = (0..NUMBERS).collect();
         println!("{:<12}{}", "", cells(&numbers));
@@ -111,6 +171,10 @@ impl Tally {
                     _ => {}
                 }
             }
+        }
+        for (named, row) in NAMED.iter().zip(&self.drops) {
+            let never = OF_NAMED.iter().filter(|number| row[**number] == 0);
+            missing.extend(never.map(|number| format!("drop of {named} never got {number}")));
         }
         let never = (0..NUMBERS).filter(|number| self.given(*number) == 0);
         missing.extend(never.map(|number| format!("number {number} was never given")));

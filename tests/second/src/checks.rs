@@ -90,6 +90,7 @@ fn wrong_call(scene: &Scene, action: Action) -> bool {
     match action {
         Action::Chmod => pending(scene.guest).is_stored(),
         Action::Switch { guest } => pending(guest).is_stored(),
+        Action::Drop { guest } => !pending(guest).is_stored(),
         _ => action.call_served().is_some_and(|call| call.pending() != pending(scene.guest)),
     }
 }

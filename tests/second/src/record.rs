@@ -53,6 +53,9 @@ pub enum Action {
     Unpin {
         pa: Phys,
     },
+    Drop {
+        guest: GuestId,
+    },
 }
 
 impl Call {
@@ -132,7 +135,7 @@ pub fn decode(record: &[u8]) -> Option<Action> {
         return None;
     }
     match kind {
-        1..=4 | 7 | 8 | 9 | 14 => decode_one(kind, a, b, value),
+        1..=4 | 7 | 8 | 9 | 14 | 15 => decode_one(kind, a, b, value),
         0 | 11 | 12 => decode_bare(kind, a, b),
         5 => Some(Action::New { va: Virt::new(a)?, pa: Phys::new(b)? }),
         6 if a == STEALTH.byte() => Some(Action::NewSm { pa: Phys::new(b)? }),
@@ -161,7 +164,8 @@ fn decode_one(kind: u8, a: u8, b: u8, value: u32) -> Option<Action> {
         7 => Action::Del { va: Virt::new(a)? },
         8 => Action::Switch { guest: GuestId::new(a)? },
         9 => Action::Lswitch { pa: Phys::new(a)? },
-        _ => Action::Unpin { pa: Phys::new(a)? },
+        14 => Action::Unpin { pa: Phys::new(a)? },
+        _ => Action::Drop { guest: GuestId::new(a)? },
     })
 }
 
@@ -191,6 +195,7 @@ pub fn encode(action: Action) -> [u8; 8] {
         Action::Chmod => (12, 0, 0),
         Action::Pin { pa, kind } => (13, pa.byte(), pin_argument(kind)),
         Action::Unpin { pa } => (14, pa.byte(), 0),
+        Action::Drop { guest } => (15, guest.byte(), 0),
     };
     let value = match action {
         Action::Write { value, .. } => value.to_le_bytes(),

@@ -39,6 +39,7 @@ pub fn apply(state: &mut State, action: Action) -> u32 {
         Action::Chmod => state.mode = Mode::Running,
         Action::Pin { pa, kind } => pin(state, guest, pa, kind),
         Action::Unpin { pa } => unpin(state, guest, pa),
+        Action::Drop { guest: named } => state.guest_mut(named).pending = Pending::NONE,
     }
     if action.call_served().is_some() {
         state.guest_mut(guest).pending = Pending::NONE;

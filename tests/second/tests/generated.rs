@@ -84,7 +84,7 @@ fn reads_give_the_last_write_to_the_page() {
 /// All pairs of kind and number that the tables of docs/HOST.md allow, and no others.
 #[test]
 fn near_journals_meet_every_refusal_of_every_kind() {
-    let numbers: [&[u8]; 15] = [
+    let numbers: [&[u8]; 16] = [
         &[0, 2],
         &[0, 2, 3, 5, 6],
         &[0, 2, 3, 5, 6],
@@ -100,6 +100,7 @@ fn near_journals_meet_every_refusal_of_every_kind() {
         &[0, 2, 3, 4],
         &[0, 2, 3, 4, 10, 11],
         &[0, 2, 3, 4, 7, 12],
+        &[0, 2, 3, 4],
     ];
     let mut met = BTreeSet::new();
     for seed in 0..60 {
@@ -112,7 +113,7 @@ fn near_journals_meet_every_refusal_of_every_kind() {
             met.iter().filter(|pair| pair.0 == kind as u8).map(|pair| pair.1).collect();
         assert_eq!(of_kind, *numbers, "kind {kind}");
     }
-    assert!(met.iter().filter(|pair| pair.0 > 14).all(|pair| pair.1 == 2));
+    assert!(met.iter().filter(|pair| pair.0 > 15).all(|pair| pair.1 == 2));
 }
 
 /// What happened in a run, counted.
@@ -159,11 +160,92 @@ fn deep_runs_go_deep() {
     for seed in 0..5 {
         let mut e = Events::default();
         watch(seed, 4096, "deep", |p| count_events(&mut e, &p));
-        assert_eq!((e.kinds.len(), e.guests.len()), (15, 4), "{seed}");
+        assert_eq!((e.kinds.len(), e.guests.len()), (16, 4), "{seed}");
         assert!(e.dirty_evictions >= 50 && e.dirty_stealth_saves >= 5, "{seed} {e:?}");
         assert!(e.stealth_loads >= 5 && e.marks_lost >= 5, "{seed} {e:?}");
         assert!(e.used_up >= 1 && e.given_back >= 1 && e.second_tables >= 100, "{seed} {e:?}");
     }
+}
+
+/// How calls were declined in runs, counted.
+#[derive(Default, Debug)]
+struct Drops {
+    /// By the answer, of the active guest and of another.
+    answers: [[usize; 2]; 13],
+    /// Calls whose action was refused before.
+    refused: usize,
+    /// drop, switch and chmod of one guest, by the answer to drop.
+    in_a_row: [usize; 13],
+    /// Guests that run later on.
+    run_again: usize,
+}
+
+/// What a guest's call has come to.
+#[derive(Clone, Copy, PartialEq, Default)]
+enum Fate {
+    #[default]
+    Open,
+    Refused,
+    Dropped,
+}
+
+fn count_drops(drops: &mut Drops, seed: u64, count: usize, profile: &str) {
+    let mut fates = [Fate::Open; 4];
+    let mut latest = [(0, 0, 1); 2];
+    watch(seed, count, profile, |p| {
+        let (active, named) = (p.before.active as usize, p.record[1] as usize);
+        let own = &mut fates[active];
+        match (p.record[0], p.number) {
+            (10, 0) => *own = Fate::Open,
+            (5..=7 | 9 | 13 | 14, 5..) => *own = Fate::Refused,
+            (12, 0) => {
+                drops.run_again += (*own == Fate::Dropped) as usize;
+                *own = Fate::Open;
+                if let [(15, guest, dropped @ (0 | 4)), (8, to, 0)] = latest {
+                    drops.in_a_row[dropped as usize] += (guest == to) as usize;
+                }
+            }
+            (15, number) if named < 4 => {
+                drops.answers[number as usize][(named != active) as usize] += 1;
+                if number == 0 {
+                    drops.refused += (fates[named] == Fate::Refused) as usize;
+                    fates[named] = Fate::Dropped;
+                }
+            }
+            _ => {}
+        }
+        latest = [latest[1], (p.record[0], p.record[1], p.number)];
+    });
+}
+
+#[test]
+fn calls_are_declined_in_every_way() {
+    let mut near = Drops::default();
+    (0..60).for_each(|seed| count_drops(&mut near, seed, 600, "near"));
+    let each = [0, 3, 4].map(|number| near.answers[number]);
+    assert!(each.iter().flatten().all(|count| *count >= 20), "{near:?}");
+    assert!(near.refused >= 20 && near.run_again >= 20, "{near:?}");
+    assert!(near.in_a_row[0] >= 5 && near.in_a_row[4] >= 5, "{near:?}");
+    for seed in 0..5 {
+        let mut deep = Drops::default();
+        count_drops(&mut deep, seed, 4096, "deep");
+        assert!(deep.answers[0].iter().all(|count| *count >= 5), "{seed} {deep:?}");
+        assert!(deep.run_again >= 5 && deep.in_a_row[0] >= 1, "{seed} {deep:?}");
+    }
+}
+
+/// All of a deep run is accepted, but not every call of it is served or dropped.
+#[test]
+fn some_calls_stay() {
+    let stays = |seed: &u64| {
+        let mut left = false;
+        watch(*seed, 4096, "deep", |p| {
+            left = p.after.guests.iter().any(|guest| guest.pending.is_stored());
+        });
+        left
+    };
+    let runs = (0..20).filter(stays).count();
+    assert!(runs >= 5, "{runs} of 20");
 }
 
 #[test]

@@ -115,7 +115,7 @@ fn input_that_ends_inside_the_header() {
 
 #[test]
 fn a_refused_record_does_not_stop_the_run() {
-    let records = [[15, 0, 0, 0, 0, 0, 0, 0], [12, 0, 0, 0, 0, 0, 0, 0], [11, 0, 0, 0, 0, 0, 0, 0]];
+    let records = [[16, 0, 0, 0, 0, 0, 0, 0], [12, 0, 0, 0, 0, 0, 0, 0], [11, 0, 0, 0, 0, 0, 0, 0]];
     let (outcome, state, answers) = run(&journal(&records), 24);
     assert_eq!(outcome, Ok(report(3, 1, 2, 0)));
     assert_eq!((answers[0], answers[8], answers[16]), (2, 3, 0));

@@ -2,6 +2,7 @@
 
 mod support;
 
+use second::hex::from_hex;
 use second::program_output;
 use support::{after_nine, journal, nine, Machine};
 
@@ -10,7 +11,7 @@ fn fresh_answers() {
     let mut m = Machine::fresh();
     assert_eq!(m.no(0, 0, 0), 0);
     assert_eq!(m.give(&[0; 9]), (2, 0));
-    assert_eq!(m.no(15, 0, 0), 2);
+    assert_eq!(m.no(16, 0, 0), 2);
     assert_eq!(m.no(14, 15, 0), 3);
     assert_eq!(m.no(14, 16, 0), 2);
     assert_eq!(m.no(1, 46, 0), 6);
@@ -103,6 +104,75 @@ fn fifty_six_pins() {
     m.served(4, 15, 0);
     assert_eq!(m.0.guests[2].physical[15], page);
     assert_eq!(m.0.free, 0);
+}
+
+/// Runs records of kind, a, b and call from the fresh machine.
+fn answers(records: &[[u8; 4]]) -> Vec<u8> {
+    let mut m = Machine::fresh();
+    records.iter().map(|[kind, a, b, call]| m.give(&[*kind, *a, *b, *call, 0, 0, 0, 0]).0).collect()
+}
+
+#[test]
+fn bytes_that_are_no_record() {
+    let mut m = Machine::fresh();
+    for record in ["1000000000000000", "0100000001000000", "0A00000600000000", "0608010000000000"] {
+        assert_eq!(m.give(&from_hex(record).unwrap()), (2, 0), "{record}");
+    }
+}
+
+#[test]
+fn a_refused_call_is_declined() {
+    let records = [
+        [15, 4, 0, 0],
+        [15, 0, 0, 0],
+        [10, 0, 0, 4],
+        [13, 0, 0, 0],
+        [12, 0, 0, 0],
+        [15, 1, 0, 0],
+        [15, 0, 0, 0],
+        [13, 0, 0, 0],
+        [15, 0, 0, 0],
+        [12, 0, 0, 0],
+    ];
+    assert_eq!(answers(&records), [2, 3, 0, 10, 4, 4, 0, 4, 4, 0]);
+}
+
+#[test]
+fn a_call_left_behind_is_declined() {
+    let records = [
+        [10, 0, 1, 4],
+        [8, 1, 0, 0],
+        [12, 0, 0, 0],
+        [11, 0, 0, 0],
+        [8, 0, 0, 0],
+        [15, 0, 0, 0],
+        [8, 0, 0, 0],
+        [12, 0, 0, 0],
+    ];
+    assert_eq!(answers(&records), [0, 0, 0, 0, 4, 0, 0, 0]);
+}
+
+#[test]
+fn the_named_guests_call_alone_is_declined() {
+    let records = [
+        [10, 9, 0, 2],
+        [8, 2, 0, 0],
+        [12, 0, 0, 0],
+        [10, 5, 0, 3],
+        [15, 0, 0, 0],
+        [1, 0, 0, 0],
+        [12, 0, 0, 0],
+        [15, 2, 0, 0],
+        [12, 0, 0, 0],
+        [1, 0, 0, 0],
+    ];
+    assert_eq!(answers(&records), [0, 0, 0, 0, 0, 3, 4, 0, 0, 6]);
+}
+
+#[test]
+fn the_three_records_without_looking() {
+    let records = [[11, 0, 0, 0], [15, 3, 0, 0], [8, 3, 0, 0], [12, 0, 0, 0]];
+    assert_eq!(answers(&records), [0, 4, 0, 0]);
 }
 
 #[test]

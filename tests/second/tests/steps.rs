@@ -18,7 +18,7 @@ fn one_before_two_before_three() {
     let mut m = Machine::fresh();
     m.0.pages[4].memory = 1;
     let before = m.0.clone();
-    for record in [&[][..], &[0; 8], &[0; 9], &[15; 8]] {
+    for record in [&[][..], &[0; 8], &[0; 9], &[16; 8]] {
         assert_eq!(second::step(&mut m.0, record), (1, 0));
     }
     assert_eq!(m.0, before);
@@ -31,7 +31,7 @@ fn one_before_two_before_three() {
 #[test]
 fn unused_bytes_are_zero() {
     let mut m = Machine::fresh();
-    for kind in 0..15u8 {
+    for kind in 0..16u8 {
         for at in 4..8 {
             let mut record = [kind, if kind == 6 { 7 } else { 0 }, 0, 0, 0, 0, 0, 0];
             record[at] = 1;
@@ -48,7 +48,7 @@ fn unused_bytes_are_zero() {
 
 #[test]
 fn arguments_of_each_kind() {
-    let limits: [(u8, u8, u8); 12] = [
+    let limits: [(u8, u8, u8); 13] = [
         (1, 63, 0),
         (2, 63, 0),
         (3, 63, 0),
@@ -61,6 +61,7 @@ fn arguments_of_each_kind() {
         (14, 15, 0),
         (0, 0, 0),
         (12, 0, 0),
+        (15, 3, 0),
     ];
     let mut m = Machine::fresh();
     for (kind, a, b) in limits {
@@ -75,6 +76,7 @@ fn arguments_of_each_kind() {
         assert_eq!(Machine::fresh().hcall(call, a, b + 1), 2);
     }
     assert_eq!(Machine::fresh().hcall(6, 0, 0), 2);
+    assert!((16..=255).all(|kind| m.no(kind, 0, 0) == 2));
 }
 
 #[test]

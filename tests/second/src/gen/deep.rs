@@ -23,23 +23,25 @@ const CYCLE: [Phase; 6] =
 fn intents(phase: Phase) -> &'static [(usize, Intent)] {
     match phase {
         Phase::Build => &[
-            (42, map),
+            (41, map),
             (10, pin),
             (10, stealth),
             (7, change_list),
             (5, switch),
-            (21, touch),
+            (20, touch),
             (3, del),
             (2, quiet),
+            (2, decline),
         ],
         Phase::Work => &[
-            (74, touch),
+            (72, touch),
             (5, switch),
             (3, change_list),
             (8, map),
             (4, stealth),
             (4, del),
             (2, quiet),
+            (2, decline),
         ],
         Phase::Fill => &[(70, pin), (16, switch), (6, map), (8, touch)],
         Phase::Drain => &[(46, del), (26, unpin), (12, switch), (10, change_list), (6, touch)],
@@ -75,10 +77,12 @@ pub fn run_phase(driver: &mut Driver, phase: Phase) {
     }
 }
 
-/// One intent of the phase; late in the run perhaps a guest is left behind.
+/// One intent of the phase; now and then, late in the run more often, a guest is left
+/// behind.
 pub fn one(driver: &mut Driver, phase: Phase) {
     let late = driver.limit - driver.records.len() < driver.limit / 16;
-    if late && driver.free_guests().len() >= 2 && driver.rng.percent(2) {
+    let share = (phase != Phase::Fill) as usize + late as usize;
+    if !driver.free_guests().is_empty() && driver.rng.percent(share) {
         return leave_behind(driver);
     }
     let mut draw = driver.rng.below(100);
@@ -241,15 +245,19 @@ fn change_list(driver: &mut Driver) {
     }
 }
 
+/// A guest that was left with a call is switched to once that is dropped.
 pub fn switch(driver: &mut Driver) {
     if !driver.stop_guest() {
         return;
     }
-    let mut to = driver.free_guests();
+    let (mut to, left) = (driver.free_guests(), driver.left_behind());
     if driver.rng.percent(15) {
         to = vec![driver.guest()];
+    } else if !left.is_empty() && (to.is_empty() || driver.rng.percent(20)) {
+        to = left;
     }
     if let Some(guest) = driver.rng.pick(&to) {
+        driver.accept(Action::Drop { guest });
         driver.accept(Action::Switch { guest });
     }
     if driver.rng.percent(70) {
@@ -267,13 +275,40 @@ fn quiet(driver: &mut Driver) {
     }
 }
 
-/// Leaves a guest with its call pending: it can't be switched to again.
-fn leave_behind(driver: &mut Driver) {
-    if !driver.run_guest() {
+/// A call that may be served or not, if the guest can make one.
+fn ask(driver: &mut Driver) -> bool {
+    let limits = [(64, 16), (64, 1), (16, 1), (16, 2), (16, 1)];
+    let number = driver.rng.below(limits.len());
+    let (a, b) = (driver.rng.below(limits[number].0), driver.rng.below(limits[number].1));
+    let call = Call::from_numbers(1 + number as u8, a as u8, b as u8);
+    driver.run_guest() && driver.accept(Action::Hcall(call))
+}
+
+/// The host declines a call: one that a guest was left with, or the active guest's.
+fn decline(driver: &mut Driver) {
+    let left = driver.left_behind();
+    if !left.is_empty() && driver.rng.percent(40) {
+        if let (true, Some(guest)) = (driver.stop_guest(), driver.rng.pick(&left)) {
+            driver.accept(Action::Drop { guest });
+        }
         return;
     }
-    let Some(pa) = Phys::new(driver.rng.below(Phys::COUNT) as u8) else { return };
-    driver.accept(Action::Hcall(Some(Call::Unpin { pa })));
+    if ask(driver) {
+        if driver.rng.percent(30) {
+            access(driver);
+        }
+        driver.accept(Action::Drop { guest: driver.guest() });
+    }
+    if driver.rng.percent(70) {
+        driver.run_guest();
+    }
+}
+
+/// Leaves a guest with its call pending: it doesn't run until that is dropped.
+fn leave_behind(driver: &mut Driver) {
+    if !ask(driver) {
+        return;
+    }
     let others = driver.free_guests();
     if let Some(guest) = driver.rng.pick(&others) {
         driver.accept(Action::Switch { guest });

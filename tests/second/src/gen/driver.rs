@@ -99,6 +99,11 @@ impl Driver {
         GuestId::all().filter(|g| *g != self.guest() && !self.has_call(*g)).collect()
     }
 
+    /// The other guests that were left with a call.
+    pub fn left_behind(&self) -> Vec<GuestId> {
+        GuestId::all().filter(|g| *g != self.guest() && self.has_call(*g)).collect()
+    }
+
     /// What serving the call would be answered, were it pending.
     pub fn would_serve(&self, call: Call) -> u8 {
         refusal_when_called(&self.state, call.action()).unwrap_or(0)

@@ -2,12 +2,15 @@
 //!
 //! Most come from an accepted record with one field changed. Refusals 7 to 12 (and
 //! 5 of new) need a call that can never be served, after which the guest is stuck
-//! for good; so a journal has at most four of those, and seeds take turns.
+//! until it is dropped. A journal has four of those, of which some are dropped at
+//! once, and seeds take turns; at its end guests come back and there are more.
 
 use crate::gen::deep::{access, one, pin, run_phase, stealth, Phase};
 use crate::gen::driver::Driver;
 use crate::numbers::{GuestId, Virt};
 use crate::record::{encode, Action, Call};
+
+const TURNS: [u8; 6] = [7, 8, 9, 10, 12, 5];
 
 /// Room that filling all pages needs, near misses included.
 const ROOM_TO_FILL: usize = 420;
@@ -35,9 +38,8 @@ pub fn records(seed: u64, count: usize) -> Vec<[u8; 8]> {
 
 /// Four numbers out of 7 to 12 and 5, by turns; 11 first, where there is room for it.
 fn wanted_numbers(driver: &mut Driver) -> Vec<u8> {
-    let turns = [7, 8, 9, 10, 12, 5];
-    let from = driver.rng.below(turns.len());
-    let mut wanted: Vec<u8> = (0..4).map(|i| turns[(from + i) % turns.len()]).collect();
+    let from = driver.rng.below(TURNS.len());
+    let mut wanted: Vec<u8> = (0..4).map(|i| TURNS[(from + i) % TURNS.len()]).collect();
     if driver.limit >= ROOM_TO_FILL && driver.rng.percent(40) {
         wanted[0] = 11;
     }
@@ -52,12 +54,15 @@ fn work_until(driver: &mut Driver, end: usize) {
             6 | 7 => Phase::Work,
             _ => Phase::Drain,
         };
+        if driver.rng.percent(3) {
+            come_back(driver);
+        }
         one(driver, phase);
     }
 }
 
-/// Puts the active guest into a call whose action gets the number, then goes on
-/// with another guest.
+/// Puts the active guest into a call whose action gets the number, then declines it or
+/// goes on with another guest.
 fn strand(driver: &mut Driver, number: u8) {
     if matches!(number, 9 | 10) {
         pin(driver);
@@ -75,6 +80,11 @@ fn strand(driver: &mut Driver, number: u8) {
     }
     access(driver);
     driver.give(encode(Action::Chmod));
+    if driver.rng.percent(30) {
+        driver.accept(Action::Drop { guest: driver.guest() });
+        driver.run_guest();
+        return;
+    }
     let others = driver.free_guests();
     if let Some(guest) = driver.rng.pick(&others) {
         driver.accept(Action::Switch { guest });
@@ -105,15 +115,32 @@ fn every_call() -> Vec<Call> {
     all.filter_map(|(number, a, b)| Call::from_numbers(number, a, b)).collect()
 }
 
-/// When every guest is stuck there is little left: hosts' accesses and refusals.
+/// A guest by three records, sent without looking; mostly while the host has control.
+fn come_back(driver: &mut Driver) {
+    if driver.rng.percent(75) {
+        driver.stop_guest();
+    }
+    let Some(guest) = GuestId::new(driver.rng.below(GuestId::COUNT) as u8) else { return };
+    for action in [Action::Drop { guest }, Action::Switch { guest }, Action::Chmod] {
+        driver.give(encode(action));
+    }
+}
+
+/// While every guest is stuck there is little left: hosts' accesses and refusals.
 fn aftermath(driver: &mut Driver) {
     let stuck = GuestId::all().all(|g| driver.has_call(g) || g == driver.guest());
     if !stuck || !driver.has_call(driver.guest()) {
+        if driver.rng.percent(12) {
+            let number = TURNS[driver.rng.below(TURNS.len())];
+            return strand(driver, number);
+        }
         return one(driver, Phase::Build);
     }
     let mapped = driver.mapped();
     let before = driver.records.len();
-    if let Some(va) = driver.rng.pick(&mapped) {
+    if driver.rng.percent(4) {
+        come_back(driver);
+    } else if let Some(va) = driver.rng.pick(&mapped) {
         let value = driver.rng.draw() as u32;
         driver.accept(Action::Write { hyper: true, va, value });
         driver.accept(Action::Read { hyper: true, va });
@@ -152,7 +179,7 @@ fn neighbour(driver: &mut Driver, record: [u8; 8]) -> [u8; 8] {
     let mut other = record;
     let rng = &mut driver.rng;
     match rng.below(10) {
-        0 => other[0] = rng.below(16) as u8,
+        0 => other[0] = rng.below(17) as u8,
         1 => other[0] = nudged(rng.draw(), record[0]),
         2 => other[1] = nudged(rng.draw(), record[1]),
         3 => other[1] = EDGES[rng.below(EDGES.len())],
@@ -185,15 +212,16 @@ fn access_beside(driver: &mut Driver) -> [u8; 8] {
     [kind, nudged(driver.rng.draw(), va), 0, 0, 0, 0, 0, 0]
 }
 
-/// The arguments under another kind; or chmod, switch, new_sm at a wrong time.
+/// The arguments under another kind; or chmod, switch, new_sm, drop at a wrong time.
 fn other_use(driver: &mut Driver, record: [u8; 8]) -> [u8; 8] {
     const SERVING: [u8; 5] = [5, 7, 9, 13, 14];
     let rng = &mut driver.rng;
-    let [kind, a, b] = match rng.below(6) {
+    let [kind, a, b] = match rng.below(7) {
         0 => [12, 0, 0],
         1 => [8, rng.below(5) as u8, 0],
         2 => [6, 7, record[2]],
         3 if record[0] == 6 => [5, 7, record[2]],
+        6 => [15, rng.below(5) as u8, 0],
         _ => [SERVING[rng.below(SERVING.len())], record[1], record[2]],
     };
     [kind, a, b, 0, 0, 0, 0, 0]

@@ -1,0 +1,57 @@
+//! What came of the guests' calls, seen over several records.
+
+use second::State;
+
+pub const NAMES: [&str; 6] = [
+    "call refused, then dropped",
+    "call left behind by a switch, then dropped while another guest was active",
+    "guest ran again after its call was dropped",
+    "guest ran after drop, switch, chmod in a row, the drop done",
+    "guest ran after drop, switch, chmod in a row, the drop refused",
+    "call of another guest stayed when one was dropped",
+];
+
+#[derive(Clone, Copy, PartialEq, Default)]
+enum Fate {
+    #[default]
+    Open,
+    Refused,
+    Dropped,
+}
+
+/// The fate of each guest's latest call, and the two records before with their answers.
+#[derive(Default)]
+pub struct Calls {
+    fates: [Fate; 4],
+    latest: [(u8, u8, u8); 2],
+}
+
+impl Calls {
+    /// Which of these happened by a record; its state is the one before it.
+    pub fn note(&mut self, record: &[u8], number: u8, before: &State) -> [bool; NAMES.len()] {
+        let (kind, named, active) = (record[0], record[1], before.active as usize);
+        let mut happened = [false; NAMES.len()];
+        match (kind, number) {
+            (10, 0) => self.fates[active] = Fate::Open,
+            (5..=7 | 9 | 13 | 14, 5..) => self.fates[active] = Fate::Refused,
+            (12, 0) => {
+                let in_a_row =
+                    |dropped| self.latest == [(15, before.active, dropped), (8, before.active, 0)];
+                happened[2] = self.fates[active] == Fate::Dropped;
+                happened[3] = in_a_row(0);
+                happened[4] = in_a_row(4);
+                self.fates[active] = Fate::Open;
+            }
+            (15, 0) => {
+                let others = before.guests.iter().enumerate().filter(|(g, _)| *g != named as usize);
+                happened[0] = self.fates[named as usize] == Fate::Refused;
+                happened[1] = named as usize != active;
+                happened[5] = others.into_iter().any(|(_, guest)| guest.pending.is_stored());
+                self.fates[named as usize] = Fate::Dropped;
+            }
+            _ => {}
+        }
+        self.latest = [self.latest[1], (kind, named, number)];
+        happened
+    }
+}
