@@ -141,7 +141,7 @@ pub resumes-spelled : {s : State} → Valid s → s .shape .guests .mode ≡ wai
 resumes-spelled {s} v m g h =
     let r : Resumes s g = host-resumes v m g h in
     let accepted : (xs : List Action) → resume (s .shape) g ≡ xs → sent s xs .answers ≡ map (λ x. done 0) xs =
-        λ xs e. subst (λ (ys : List Action). sent s ys .answers ≡ map (λ x. done 0) ys) e (r .accepted) in (
+    λ xs e. subst (λ (ys : List Action). sent s ys .answers ≡ map (λ x. done 0) ys) e (r .accepted) in (
       (λ c. accepted (drop g ∷ switch g ∷ chmod ∷ []) (with-call (s .shape) g c)),
       (λ e. accepted (switch g ∷ chmod ∷ []) (without-call (s .shape) g e)),
       λ e. rw (eq-eqb (at (s .shape .guests .call) g) callNone e) at (r .blind),
