@@ -1,6 +1,6 @@
 -- Any guest runs again within three records: the theorem of crates/keeps/proofs/Resumes.antt for `steps::step` on the host's bytes.
 -- Assumes nothing.
-use mathlib.Core.Path.{_≡_, refl, sym, ap, ap₂, subst, _∙_}
+use mathlib.Core.Path.{_≡_, refl, sym, ap, subst, _∙_}
 use mathlib.Core.List.{List, [], _∷_, map}
 use Prim.Native.Nat.{ℕ, _<_}
 use Rattle.model.specs.Sizes.{guests}
@@ -10,17 +10,16 @@ use Rattle.model.specs.Records.{Action, encode}
 use Rattle.model.specs.Valid.{Valid}
 use Rattle.model.specs.Step.{done}
 use Rattle.model.specs.Step as model
-use Rattle.model.specs.Run.{run}
 use Rattle.keeps.specs.Resumes.{resume, resumeBlindly, sent, Resumed}
 use Rattle.keeps.proofs.Resumes.{host-resumes}
-use Rattle.host.specs.View.{view, Whole}
+use Rattle.host.specs.View.{view}
 use Rattle.host.proofs.Inverse.{view-inj}
 use Rattle.steps.specs.declared.Answer.{Answer}
 use Rattle.steps.specs.declared.Answer.the-variants.{Done, Refused}
 use Rattle.steps.specs.Promises.{answerTo}
 use Rattle.steps.specs.Turns.{answerFrom}
 use Rattle.guarantee.specs.Guarantee.{Folds}
-use Rattle.guarantee.specs.Resumes.{StepsOn, ResumesOn}
+use Rattle.guarantee.specs.Resumes.{ResumesOn}
 use Rattle.guarantee.proofs.Folds.{folds-run}
 
 -- the code's answers are those of the model's that they stand for

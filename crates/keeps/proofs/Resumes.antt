@@ -2,7 +2,6 @@
 -- another, whatever call it has.
 -- Assumes nothing.
 use mathlib.Core.Path.{_≡_, refl, sym, ap, subst, _∙_}
-use mathlib.Core.Logic.{_≢_}
 use mathlib.Core.List.{List, [], _∷_, map}
 use mathlib.Core.Option.{Option, none, some}
 use Prim.Native.Nat.{ℕ, _≤_, _<_}
@@ -14,8 +13,8 @@ use Rattle.laws.proofs.Cases.{same?}
 use Rattle.laws.proofs.Lists.{at-same, at-other}
 use Rattle.model.specs.Sizes.{guests}
 use Rattle.model.specs.Names.{waiting}
-use Rattle.model.specs.State.{Shape, State, active}
-use Rattle.model.specs.Records.{Action, switch, chmod, drop, callNone, InRange, encode, decode}
+use Rattle.model.specs.State.{Shape, State}
+use Rattle.model.specs.Records.{Action, switch, chmod, drop, callNone, InRange, encode}
 use Rattle.model.specs.Checks.{asked}
 use Rattle.model.specs.Parts.{takeOut, enter, loadStealth}
 use Rattle.model.specs.Switch.{switchStep}
@@ -23,7 +22,7 @@ use Rattle.model.specs.Chmod.{chmodStep}
 use Rattle.model.specs.Drop.{dropStep}
 use Rattle.model.specs.Valid.{Valid}
 use Rattle.model.specs.Step.{ownChecks, refusal, next, value, done, refused, Outcome, refuse, act, judge, step}
-use Rattle.model.specs.Run.{Ran, runBy, run}
+use Rattle.model.specs.Run.{Ran, runBy}
 use Rattle.model.proofs.Records.{decode-encode}
 use Rattle.keeps.specs.Allowed.{Idle, HasCall, Allowed}
 use Rattle.keeps.specs.Resumes.{resume, resumeBlindly, sent, Resumed, declined, Resumes}
@@ -119,30 +118,34 @@ module _ {s : State} (v : Valid s) (m : s .shape .guests .mode ≡ waiting) {g :
       let G = s .shape .guests in
       record { isActive = refl; runs = refl; others = λ i n. (at-other (G .call) g 0 i n, at-other (G .callA) g 0 i n, at-other (G .callB) g 0 i n) }
 
-  call-resumes : Resumes s g
+  dropped-sent : sent s (resumeBlindly g) ≡ record { answers = done 0 ∷ done 0 ∷ done 0 ∷ []; state = chmodStep (switchStep dropped g) }
   unfolding next value then dropStep dropped
-  call-resumes =
-      let ended : sent s (resumeBlindly g) ≡ record { answers = done 0 ∷ done 0 ∷ done 0 ∷ []; state = chmodStep (switchStep dropped g) } =
+  dropped-sent =
       sends v (drop g) h (record { waits = m; calls = c }) (switch g ∷ chmod ∷ [])
-      ∙ ap (λ (t : Ran). record { answers = done 0 ∷ t .answers; state = t .state }) (turned dropped-valid m h dropped-idle) in
-      resumes (resumeBlindly g) (chmodStep (switchStep dropped g)) (with-call (s .shape) g c) (omega arith) ended dropped-resumed
-      (ended ∙ rw (ne-eqb (at (s .shape .guests .call) g) callNone c))
+      ∙ ap (λ (t : Ran). record { answers = done 0 ∷ t .answers; state = t .state }) (turned dropped-valid m h dropped-idle)
+
+  call-resumes : Resumes s g
+  call-resumes =
+      resumes (resumeBlindly g) (chmodStep (switchStep dropped g)) (with-call (s .shape) g c) (omega arith) dropped-sent dropped-resumed
+      (dropped-sent ∙ rw (ne-eqb (at (s .shape .guests .call) g) callNone c))
 
 -- ---- any guest
 
 pub host-resumes : {s : State} → Valid s → s .shape .guests .mode ≡ waiting → (g : ℕ) → g < guests → Resumes s g
 host-resumes {s} v m g h = same? (at (s .shape .guests .call) g) callNone (idle-resumes v m h) (call-resumes v m h)
 
--- spelled out: where the guest has a call, and where it has none
+-- ---- spelled out: where the guest has a call, and where it has none
+
+all-accepted : {s : State} {g : ℕ} → Resumes s g → (xs : List Action) → resume (s .shape) g ≡ xs → sent s xs .answers ≡ map (λ x. done 0) xs
+all-accepted {s} r xs e = subst (λ (ys : List Action). sent s ys .answers ≡ map (λ x. done 0) ys) e (r .accepted)
+
 pub resumes-spelled : {s : State} → Valid s → s .shape .guests .mode ≡ waiting → (g : ℕ) → g < guests
     → (HasCall (s .shape) g → sent s (drop g ∷ switch g ∷ chmod ∷ []) .answers ≡ done 0 ∷ done 0 ∷ done 0 ∷ [])
     × (Idle (s .shape) g → sent s (switch g ∷ chmod ∷ []) .answers ≡ done 0 ∷ done 0 ∷ [])
     × (Idle (s .shape) g → sent s (drop g ∷ switch g ∷ chmod ∷ []) .answers ≡ refused 4 ∷ done 0 ∷ done 0 ∷ [])
 resumes-spelled {s} v m g h =
-    let r : Resumes s g = host-resumes v m g h in
-    let accepted : (xs : List Action) → resume (s .shape) g ≡ xs → sent s xs .answers ≡ map (λ x. done 0) xs =
-    λ xs e. subst (λ (ys : List Action). sent s ys .answers ≡ map (λ x. done 0) ys) e (r .accepted) in (
-      (λ c. accepted (drop g ∷ switch g ∷ chmod ∷ []) (with-call (s .shape) g c)),
-      (λ e. accepted (switch g ∷ chmod ∷ []) (without-call (s .shape) g e)),
+    let r : Resumes s g = host-resumes v m g h in (
+      (λ c. all-accepted r (drop g ∷ switch g ∷ chmod ∷ []) (with-call (s .shape) g c)),
+      (λ e. all-accepted r (switch g ∷ chmod ∷ []) (without-call (s .shape) g e)),
       λ e. rw (eq-eqb (at (s .shape .guests .call) g) callNone e) at (r .blind),
     )
