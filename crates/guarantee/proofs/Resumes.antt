@@ -48,5 +48,6 @@ step-resumes x v m g h =
       accepted = λ ys y p. answers-are s (view y) xs ys p (r .accepted) ∙ all-done xs;
       resumed = λ ys y p. subst (λ (t : State). Resumed (s .shape) (t .shape) g) (sym (ends-at s (view y) xs ys p)) (r .resumed);
       blind = λ ys y p. answers-are s (view y) (resumeBlindly g) ys p (r .blind);
+      blindly = λ ys y p. subst (λ (t : State). Resumed (s .shape) (t .shape) g) (sym (ends-at s (view y) (resumeBlindly g) ys p ∙ r .same)) (r .resumed);
       same = λ ys zs y z w u p q. view-inj y z w u (ends-at s (view y) (resumeBlindly g) ys p ∙ r .same ∙ sym (ends-at s (view z) xs zs q));
     }

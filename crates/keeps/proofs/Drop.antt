@@ -1,4 +1,4 @@
--- drop keeps a state valid: a guest without a call may be in any state of the machine.
+-- drop keeps a state valid: no rule asks that a guest have a call.
 -- Assumes nothing.
 use Prim.Native.Nat.{ℕ, _<_}
 use Rattle.model.specs.Sizes.{guests}

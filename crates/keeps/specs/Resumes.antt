@@ -1,6 +1,7 @@
 -- Any guest runs again within three records, whatever call it has: docs/HOST.md, "Records and answers".
 -- Assumes nothing.
 use mathlib.Core.Path.{_≡_}
+use mathlib.Core.Bool.{Bool}
 use mathlib.Core.Logic.{_≢_}
 use mathlib.Core.List.{List, [], _∷_, _++_, map}
 use Prim.Native.Nat.{ℕ, _≤_}
@@ -13,9 +14,13 @@ use Rattle.model.specs.Records.{Action, switch, chmod, drop, callNone, encode}
 use Rattle.model.specs.Step.{Answer, done, refused}
 use Rattle.model.specs.Run.{Ran, run}
 
+-- guest g has no pending call
+abbrev pub isIdle : Shape → ℕ → Bool
+isIdle h g = eqb (at (h .guests .call) g) callNone
+
 -- What the host sends to let guest g run: drop, exactly if g has a pending call; then switch and chmod.
 abbrev pub resume : Shape → ℕ → List Action
-resume h g = pick (eqb (at (h .guests .call) g) callNone) [] (drop g ∷ []) ++ (switch g ∷ chmod ∷ [])
+resume h g = pick (isIdle h g) [] (drop g ∷ []) ++ (switch g ∷ chmod ∷ [])
 
 -- all three, without looking
 abbrev pub resumeBlindly : ℕ → List Action
@@ -33,9 +38,9 @@ pub record Resumed (h k : Shape) (g : ℕ) : Type 0 where
       → (at (k .guests .call) i ≡ at (h .guests .call) i) × (at (k .guests .callA) i ≡ at (h .guests .callA) i)
       × (at (k .guests .callB) i ≡ at (h .guests .callB) i)
 
--- what becomes of the first of the three where g has a call, and where it has none
+-- the answer to a drop that was sent without looking
 abbrev pub declined : Shape → ℕ → Answer
-declined h g = pick (eqb (at (h .guests .call) g) callNone) (refused 4) (done 0)
+declined h g = pick (isIdle h g) (refused 4) (done 0)
 
 pub record Resumes (s : State) (g : ℕ) : Type 0 where
   -- at most three records, each is accepted, and then g runs

@@ -321,7 +321,10 @@ declines =
     ∷ row (does (hcall callNew 48 9) ++ does (switch 1) ++ gets 4 (switch 0) ++ does (drop 0) ++ does (switch 0) ++ does chmod ++ gets 3 (drop 0))
     ∷ ending (does (hcall callNew 48 9) ++ does (switch 1) ++ does chmod ++ does (hcall callPin 5 1) ++ does (drop 0))
     (λ s. callIs 0 callNone 0 0 s && callIs 1 callPin 5 1 s && waitsAt 1 s)
-    ∷ ending (does (hcall callPin 5 1) ++ does (drop 0)) (λ s. callIs 0 callNone 0 0 s && waitsAt 0 s)
+    ∷ ending (turnsTo 2 ++ does (hcall callPin 5 1) ++ does (switch 0) ++ does (drop 2)) (λ s. callIs 2 callNone 0 0 s && waitsAt 0 s)
+    -- the cache and the TLB are left alone
+    ∷ ending (nine ++ does (hcall callPin 5 1) ++ does (drop 0))
+    (λ s. callIs 0 callNone 0 0 s && waitsAt 0 s && lineIs 0 0 8 300 s && historyIs 0 1 s && slotIs 0 0 8 s && memoryIs 8 0 s)
     -- a b, a call and a value that are not used
     ∷ row (bad (15 ∷ 0 ∷ 1 ∷ 0 ∷ 0 ∷ 0 ∷ 0 ∷ 0 ∷ []) ++ bad (15 ∷ 0 ∷ 0 ∷ 1 ∷ 0 ∷ 0 ∷ 0 ∷ 0 ∷ []) ++ bad (15 ∷ 0 ∷ 0 ∷ 0 ∷ 0 ∷ 0 ∷ 0 ∷ 1 ∷ []))
     ∷ []
