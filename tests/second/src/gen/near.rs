@@ -126,7 +126,8 @@ fn come_back(driver: &mut Driver) {
     }
 }
 
-/// While every guest is stuck there is little left: hosts' accesses and refusals.
+/// While every guest is stuck there is little left: hosts' accesses and refusals, until a
+/// guest comes back.
 fn aftermath(driver: &mut Driver) {
     let stuck = GuestId::all().all(|g| driver.has_call(g) || g == driver.guest());
     if !stuck || !driver.has_call(driver.guest()) {
