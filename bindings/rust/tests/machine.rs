@@ -139,21 +139,25 @@ fn refusals() -> Vec<(Refusal, Vec<Action>, Action)> {
             Action::NewSm(Pa(1)),
         ),
         (Refusal::InUse, asked(Call::Unpin(Pa(0))), Action::Unpin(Pa(0))),
-        (Refusal::Record, asked(Call::Del(Va(1))), Action::Drop(Guest(4))),
-        (
-            Refusal::Mode,
-            [asked(Call::Del(Va(1))), vec![Action::Switch(Guest(1)), Action::Chmod]].concat(),
-            Action::Drop(Guest(0)),
-        ),
+    ]
+}
+
+/// The same of drop; guest 0 asks for something, or nobody does.
+fn refused_drops() -> Vec<(Refusal, Vec<Action>, Action)> {
+    let asked = Action::Hcall(Call::Del(Va(1)));
+    let other_runs = vec![asked, Action::Switch(Guest(1)), Action::Chmod];
+    vec![
+        (Refusal::Record, vec![asked], Action::Drop(Guest(4))),
+        (Refusal::Mode, other_runs, Action::Drop(Guest(0))),
         (Refusal::Call, vec![Action::RetCtrl], Action::Drop(Guest(0))),
-        (Refusal::Call, asked(Call::Del(Va(1))), Action::Drop(Guest(1))),
+        (Refusal::Call, vec![asked], Action::Drop(Guest(1))),
     ]
 }
 
 // Each of the next four asserts refusals by their names, and hands them on so that the test below sees whether all were given.
 
 fn of_records() -> Vec<Refusal> {
-    for (refusal, before, action) in refusals() {
+    for (refusal, before, action) in [refusals(), refused_drops()].concat() {
         let mut host = Host::fresh();
         all_done(&mut host, &before);
         let state = host.clone();

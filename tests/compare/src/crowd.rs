@@ -13,7 +13,7 @@ pub fn records(seed: u64, count: usize) -> Vec<[u8; 8]> {
     let mut driver = Driver::new(seed ^ 0x0063_726F_7764, count);
     driver.misses = [0, 8, 30][seed as usize % 3];
     let guests = 1 + seed as usize % 4;
-    while !driver.is_full() {
+    while driver.goes_on() {
         match driver.rng.below(22) {
             0..=9 => access(&mut driver),
             10..=15 => serve(&mut driver),

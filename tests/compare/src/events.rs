@@ -39,6 +39,16 @@ struct Passage<'a> {
 }
 
 impl Events {
+    /// Everything happened once.
+    pub fn full() -> Events {
+        Events { steps: [1; NAMES.len()], calls: [1; calls::NAMES.len()] }
+    }
+
+    /// The counts, of which none may be 0.
+    pub fn needed(&mut self) -> Vec<&mut usize> {
+        self.steps.iter_mut().chain(&mut self.calls).collect()
+    }
+
     pub fn watch(&mut self, journals: &[Journal]) {
         let runs = ["deep", "near", "crowd", "blind", "fill", "declined"];
         for journal in journals.iter().filter(|j| runs.contains(&j.profile)) {

@@ -1,7 +1,8 @@
-//! What a run has not met must be missed: each count of the tally left out, and each run of a few that end with a drop.
+//! What a run has not met must be missed: each count of the tally and of the events left out, and each run of a few that end with a drop.
 
 use second::{fresh, step, HEADER};
 
+use crate::events::Events;
 use crate::tally::Tally;
 use crate::task::Task;
 
@@ -16,9 +17,11 @@ const NO_SWITCH: [u8; 4] = [8, 4, 0, 0];
 const RUN: [u8; 4] = [12, 0, 0, 0];
 
 /// Runs that each end with a drop, and what is missing without them.
-const DROPS: [(Records, &str); 6] = [
+const DROPS: [(Records, &str); 8] = [
     (&[STOP, SWITCH, RUN, ASK, [15, 2, 0, 0]], "drop of the active guest never got 0"),
     (&[ASK, SWITCH, [15, 0, 0, 0]], "drop of another guest never got 0"),
+    (&[STOP, SWITCH, [15, 2, 1, 0]], "drop of the active guest never got 2"),
+    (&[STOP, SWITCH, [15, 0, 1, 0]], "drop of another guest never got 2"),
     (&[STOP, SWITCH, RUN, [15, 2, 0, 0]], "drop of the active guest never got 3"),
     (&[STOP, SWITCH, RUN, [15, 0, 0, 0]], "drop of another guest never got 3"),
     (&[STOP, SWITCH, NO_SWITCH, [15, 2, 0, 0]], "drop of the active guest never got 4"),
@@ -27,7 +30,7 @@ const DROPS: [(Records, &str); 6] = [
 
 /// How many were left out, each of them missed.
 pub fn each() -> Result<usize, String> {
-    let all = Tally::full().missing();
+    let all = [Tally::full().missing(), Events::full().missing()].concat();
     if !all.is_empty() {
         return Err(format!("a run that meets everything does not pass: {}", all.join(", ")));
     }
@@ -39,10 +42,18 @@ pub fn each() -> Result<usize, String> {
             return Err(format!("count {left_out} was left out, and not missed"));
         }
     }
+    let events = Events::full().needed().len();
+    for left_out in 0..events {
+        let mut happened = Events::full();
+        *happened.needed()[left_out] = 0;
+        if happened.missing().len() != 1 {
+            return Err(format!("event {left_out} was left out, and not missed"));
+        }
+    }
     for form in [whole, continued, judged] {
         drops(form)?;
     }
-    Ok(counts + 3 * DROPS.len())
+    Ok(counts + events + 3 * DROPS.len())
 }
 
 /// Everything else met, and the runs in one form of a task: all of them, then all but one.

@@ -26,12 +26,13 @@ const NUMBERS: usize = 16;
 
 const SWITCH: u8 = 8;
 const DROP: u8 = 15;
+const GUESTS: u8 = 4;
 /// Kinds from here on are none.
 const NO_KIND: u8 = KINDS.len() as u8;
 
-/// Whom a drop names, and the numbers that each must have got; 2 asks nothing of the guest.
+/// Whom a drop names, and the numbers that each must have got; 2 is of bytes that it does not use.
 const NAMED: [&str; 2] = ["the active guest", "another guest"];
-const OF_NAMED: [usize; 3] = [0, 3, 4];
+const OF_NAMED: [usize; 4] = [0, 2, 3, 4];
 
 /// Where a machine has its active guest (docs/STATE.md).
 const ACTIVE: usize = 4376;
@@ -42,7 +43,7 @@ const OF_NO_KIND: [usize; 4] = [1, 13, 14, 15];
 #[derive(Default)]
 pub struct Tally {
     /// Answers by kind of the record, the last for bytes that have none, and number.
-    answers: [[usize; NUMBERS]; 17],
+    answers: [[usize; NUMBERS]; KINDS.len() + 1],
     /// Answers to drop by whom it names and number.
     drops: [[usize; NUMBERS]; 2],
     /// Verdicts of whole journals by number.
@@ -125,9 +126,8 @@ impl Tally {
         let number = number as usize % NUMBERS;
         let kind = record.first().map_or(NO_KIND, |kind| (*kind).min(NO_KIND));
         self.answers[kind as usize][number] += 1;
-        if kind == DROP && OF_NAMED.contains(&number) {
-            let other = record.get(1) != Some(&active);
-            self.drops[other as usize][number] += 1;
+        if let [DROP, named @ 0..GUESTS, _, _, _, _, _, _] = *record {
+            self.drops[(named != active) as usize][number] += 1;
         }
     }
 

@@ -4,6 +4,7 @@ mod support;
 
 use std::collections::BTreeSet;
 
+use second::gen::driver::Driver;
 use second::gen::{journal, PROFILES};
 use second::{decode, encode, fresh, step, valid, Action, Place, State};
 
@@ -263,6 +264,15 @@ fn journals_are_the_seeds_and_have_their_length() {
     let left_over: BTreeSet<usize> =
         (0..60).map(|seed| journal(seed, 3, "noise").unwrap().len() % 8).collect();
     assert_eq!(left_over.len(), 8);
+}
+
+/// Silent after silent, however long nothing else is given.
+#[test]
+fn a_run_without_records_ends() {
+    let mut driver = Driver::new(0, 20);
+    let turns = (0..10_000).take_while(|_| driver.goes_on()).count();
+    assert!(turns < 10_000);
+    assert_eq!(driver.records, [[0; 8]; 20]);
 }
 
 #[test]

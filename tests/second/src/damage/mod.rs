@@ -54,7 +54,7 @@ fn advance(driver: &mut Driver, rng: &mut Rng) {
 
 fn go(driver: &mut Driver, phase: Phase, records: usize) {
     let end = driver.records.len() + records;
-    while driver.records.len() < end && !driver.is_full() {
+    while driver.goes_on() && driver.records.len() < end {
         one(driver, phase);
     }
 }

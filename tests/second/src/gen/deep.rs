@@ -68,7 +68,7 @@ pub fn run_phase(driver: &mut Driver, phase: Phase) {
     };
     let end = driver.records.len() + length;
     let enough = 24 + driver.rng.below(28) as u32;
-    while !driver.is_full() && driver.records.len() < end {
+    while driver.goes_on() && driver.records.len() < end {
         let free = driver.state.free.count_ones();
         if (phase == Phase::Fill && free == 0) || (phase == Phase::Drain && free >= enough) {
             return;

@@ -8,6 +8,9 @@ use crate::rng::Rng;
 use crate::state::{fresh, Mode, State};
 use crate::step::apply;
 
+/// So many turns in a row without a record, and the machine is held to accept no more.
+const PATIENCE: usize = 1000;
+
 pub struct Driver {
     pub state: State,
     pub rng: Rng,
@@ -17,6 +20,8 @@ pub struct Driver {
     pub misses: usize,
     /// How often each number was given.
     pub given: [usize; 13],
+    /// Turns since the last record, and how many records there were then.
+    idle: (usize, usize),
 }
 
 impl Driver {
@@ -28,11 +33,24 @@ impl Driver {
             limit,
             misses: 0,
             given: [0; 13],
+            idle: (0, 0),
         }
     }
 
     pub fn is_full(&self) -> bool {
         self.records.len() >= self.limit
+    }
+
+    /// Whether there is another turn. Where turns give no more records, silent is given,
+    /// accepted or not, so that a run ends whatever its machine refuses.
+    pub fn goes_on(&mut self) -> bool {
+        let (turns, records) = self.idle;
+        let turns = if records == self.records.len() { turns + 1 } else { 0 };
+        if turns > PATIENCE {
+            self.give(encode(Action::Silent));
+        }
+        self.idle = (turns, self.records.len());
+        !self.is_full()
     }
 
     /// The answer that a record would get.

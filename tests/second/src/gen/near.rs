@@ -30,7 +30,7 @@ pub fn records(seed: u64, count: usize) -> Vec<[u8; 8]> {
         work_until(&mut driver, end);
         strand(&mut driver, number);
     }
-    while !driver.is_full() {
+    while driver.goes_on() {
         aftermath(&mut driver);
     }
     driver.records
@@ -48,7 +48,7 @@ fn wanted_numbers(driver: &mut Driver) -> Vec<u8> {
 
 /// Accepted work with near misses up to so many records.
 fn work_until(driver: &mut Driver, end: usize) {
-    while driver.records.len() < end.min(driver.limit) {
+    while driver.goes_on() && driver.records.len() < end {
         let phase = match driver.rng.below(10) {
             0..=5 => Phase::Build,
             6 | 7 => Phase::Work,
@@ -126,7 +126,8 @@ fn come_back(driver: &mut Driver) {
     }
 }
 
-/// While every guest is stuck there is little left: hosts' accesses and refusals.
+/// While every guest is stuck there is little left: hosts' accesses and refusals, until a
+/// guest comes back.
 fn aftermath(driver: &mut Driver) {
     let stuck = GuestId::all().all(|g| driver.has_call(g) || g == driver.guest());
     if !stuck || !driver.has_call(driver.guest()) {
