@@ -92,7 +92,7 @@ pub enum Action {
     NewSm(Pa),
     /// The host unmaps an address, as the active guest asked.
     Del(Va),
-    /// The host makes a guest the active one; it keeps control.
+    /// The host makes a guest the active one, if it has no call; it keeps control.
     Switch(Guest),
     /// The host makes a table the current one, as the active guest asked.
     Lswitch(Pa),
@@ -100,15 +100,15 @@ pub enum Action {
     Hcall(Call),
     /// The guest gives control to the host.
     RetCtrl,
-    /// The host lets the active guest run.
+    /// The host lets the active guest run, if it has no call.
     Chmod,
     /// The host gives a free page, as the active guest asked.
     Pin(Pa, PinKind),
     /// The host takes a page back, as the active guest asked.
     Unpin(Pa),
     /// The host declines what a guest asked for, active or not, and keeps control: the guest's call is cleared, and nothing else
-    /// changes. A guest whose call is neither done nor declined does not run; with this, [`Action::Switch`] and [`Action::Chmod`]
-    /// any guest does, whatever it asked for.
+    /// changes. Refused with [`Refusal::Call`](crate::Refusal::Call) if the guest has no call. A guest whose call is neither done nor
+    /// declined does not run; with this, [`Action::Switch`] and [`Action::Chmod`] any guest does, whatever it asked for.
     Drop(Guest),
 }
 

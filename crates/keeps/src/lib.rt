@@ -1,1 +1,2 @@
-// Valid states lead only to valid states, and an action is accepted exactly when it is allowed: theorems about the model. No code.
+// Valid states lead only to valid states, an action is accepted exactly when it is allowed, and any guest runs again within three records: theorems
+// about the model. No code.

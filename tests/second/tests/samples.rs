@@ -171,8 +171,18 @@ fn the_named_guests_call_alone_is_declined() {
 
 #[test]
 fn the_three_records_without_looking() {
-    let records = [[11, 0, 0, 0], [15, 3, 0, 0], [8, 3, 0, 0], [12, 0, 0, 0]];
-    assert_eq!(answers(&records), [0, 4, 0, 0]);
+    let records = [
+        [11, 0, 0, 0],
+        [15, 3, 0, 0],
+        [8, 3, 0, 0],
+        [12, 0, 0, 0],
+        [10, 47, 0, 2],
+        [8, 1, 0, 0],
+        [15, 3, 0, 0],
+        [8, 3, 0, 0],
+        [12, 0, 0, 0],
+    ];
+    assert_eq!(answers(&records), [0, 4, 0, 0, 0, 0, 0, 0, 0]);
 }
 
 #[test]
