@@ -1,9 +1,9 @@
 //! What happened inside the runs, seen in the second program's states: runs that
 //! meet no write-back compare little.
 
+use second::gen::calls::{self, Calls};
 use second::{decode, fresh, step, Action, Mach, State, HEADER, STEALTH};
 
-use crate::calls::{self, Calls};
 use crate::journals::Journal;
 
 const NAMES: [&str; 17] = [

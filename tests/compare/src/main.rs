@@ -2,7 +2,6 @@
 //! runs with one byte of ours spoiled, which must stop there; a journal by profile and seed.
 
 mod blind;
-mod calls;
 mod crowd;
 mod declined;
 mod difference;

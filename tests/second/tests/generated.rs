@@ -4,6 +4,7 @@ mod support;
 
 use std::collections::BTreeSet;
 
+use second::gen::calls::{self, Calls};
 use second::gen::driver::Driver;
 use second::gen::{journal, PROFILES};
 use second::{decode, encode, fresh, step, valid, Action, Place, State};
@@ -173,49 +174,19 @@ fn deep_runs_go_deep() {
 struct Drops {
     /// By the answer, of the active guest and of another.
     answers: [[usize; 2]; 13],
-    /// Calls whose action was refused before.
-    refused: usize,
-    /// drop, switch and chmod of one guest, by the answer to drop.
-    in_a_row: [usize; 13],
-    /// Guests that run later on.
-    run_again: usize,
-}
-
-/// What a guest's call has come to.
-#[derive(Clone, Copy, PartialEq, Default)]
-enum Fate {
-    #[default]
-    Open,
-    Refused,
-    Dropped,
+    /// What came of calls, by the names that it has there.
+    fates: [usize; calls::NAMES.len()],
 }
 
 fn count_drops(drops: &mut Drops, seed: u64, count: usize, profile: &str) {
-    let mut fates = [Fate::Open; 4];
-    let mut latest = [(0, 0, 1); 2];
+    let mut calls = Calls::default();
     watch(seed, count, profile, |p| {
-        let (active, named) = (p.before.active as usize, p.record[1] as usize);
-        let own = &mut fates[active];
-        match (p.record[0], p.number) {
-            (10, 0) => *own = Fate::Open,
-            (5..=7 | 9 | 13 | 14, 5..) => *own = Fate::Refused,
-            (12, 0) => {
-                drops.run_again += (*own == Fate::Dropped) as usize;
-                *own = Fate::Open;
-                if let [(15, guest, dropped @ (0 | 4)), (8, to, 0)] = latest {
-                    drops.in_a_row[dropped as usize] += (guest == to) as usize;
-                }
-            }
-            (15, number) if named < 4 => {
-                drops.answers[number as usize][(named != active) as usize] += 1;
-                if number == 0 {
-                    drops.refused += (fates[named] == Fate::Refused) as usize;
-                    fates[named] = Fate::Dropped;
-                }
-            }
-            _ => {}
+        let happened = calls.note(p.record, p.number, p.before);
+        drops.fates.iter_mut().zip(happened).for_each(|(fate, so)| *fate += so as usize);
+        if p.record[0] == 15 && p.record[1] < 4 {
+            let another = p.record[1] != p.before.active;
+            drops.answers[p.number as usize][another as usize] += 1;
         }
-        latest = [latest[1], (p.record[0], p.record[1], p.number)];
     });
 }
 
@@ -225,13 +196,13 @@ fn calls_are_declined_in_every_way() {
     (0..60).for_each(|seed| count_drops(&mut near, seed, 600, "near"));
     let each = [0, 3, 4].map(|number| near.answers[number]);
     assert!(each.iter().flatten().all(|count| *count >= 20), "{near:?}");
-    assert!(near.refused >= 20 && near.run_again >= 20, "{near:?}");
-    assert!(near.in_a_row[0] >= 5 && near.in_a_row[4] >= 5, "{near:?}");
+    assert!(near.fates.iter().all(|count| *count >= 5), "{near:?}");
     for seed in 0..5 {
         let mut deep = Drops::default();
         count_drops(&mut deep, seed, 4096, "deep");
         assert!(deep.answers[0].iter().all(|count| *count >= 5), "{seed} {deep:?}");
-        assert!(deep.run_again >= 5 && deep.in_a_row[0] >= 1, "{seed} {deep:?}");
+        let [_, left_behind, again, in_a_row, ..] = deep.fates;
+        assert!(left_behind >= 5 && again >= 5 && in_a_row >= 1, "{seed} {deep:?}");
     }
 }
 

@@ -1,5 +1,6 @@
 //! Journals for tests, each fixed by its seed.
 
+pub mod calls;
 pub mod deep;
 pub mod driver;
 pub mod near;

@@ -1,6 +1,6 @@
 //! What came of the guests' calls, seen over several records.
 
-use second::State;
+use crate::state::State;
 
 pub const NAMES: [&str; 6] = [
     "call refused, then dropped",
