@@ -1,7 +1,7 @@
 //! A second, independent implementation of the ration host.
 //!
 //! Written from the rules and their readings, as they stood before docs/HOST.md had them (docs/DECISIONS.md), and from docs/STATE.md and
-//! docs/RULES.md alone, for comparison with another implementation.
+//! docs/RULES.md alone, for comparison with another implementation; drop from docs/HOST.md.
 
 pub mod bytes;
 pub mod cache;
