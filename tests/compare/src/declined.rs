@@ -1,8 +1,12 @@
 //! Calls that are declined, written with no machine beside them.
 
+use second::gen::calls;
 use second::rng::Rng;
+use second::GuestId;
 
 use crate::blind::{action, come, new, pin, read, record, write, Records, CHMOD, RET_CTRL};
+
+const GUESTS: u8 = GuestId::COUNT as u8;
 
 /// Calls that are refused whenever they are asked for here: call, a and b.
 const HOPELESS: [(u8, u8, u8); 9] = [
@@ -21,7 +25,7 @@ const HOPELESS: [(u8, u8, u8); 9] = [
 pub fn scripts(seed: u64, count: usize) -> Records {
     let mut rng = Rng::new(seed ^ 0x6465_636C_696E_6564);
     let mut out = Vec::new();
-    for guest in 0..4 {
+    for guest in 0..GUESTS {
         come(&mut out, guest);
         for (va, pa) in [(8, 1), (7, 2)] {
             pin(&mut out, pa, false);
@@ -30,7 +34,7 @@ pub fn scripts(seed: u64, count: usize) -> Records {
         }
     }
     while out.len() < count {
-        let guest = rng.below(4) as u8;
+        let guest = rng.below(GUESTS as usize) as u8;
         match rng.below(8) {
             0 | 1 => refused(&mut out, &mut rng, guest),
             2 | 3 => left_behind(&mut out, &mut rng, guest),
@@ -54,16 +58,8 @@ fn switch(guest: u8) -> [u8; 8] {
     record(8, guest, 0, 0)
 }
 
-/// Any call with its arguments in range.
-fn some_call(rng: &mut Rng) -> (u8, u8, u8) {
-    let limits = [(64, 16), (64, 1), (16, 1), (16, 2), (16, 1)];
-    let call = rng.below(limits.len());
-    let (a, b) = limits[call];
-    (1 + call as u8, rng.below(a) as u8, rng.below(b) as u8)
-}
-
 fn other_than(rng: &mut Rng, guest: u8) -> u8 {
-    (guest + 1 + rng.below(3) as u8) % 4
+    (guest + 1 + rng.below(GUESTS as usize - 1) as u8) % GUESTS
 }
 
 /// A call whose action is refused; once it is dropped the guest runs, and neither goes again.
@@ -76,7 +72,7 @@ fn refused(out: &mut Records, rng: &mut Rng, guest: u8) {
 
 /// Another guest goes on; the call is dropped while that one is active.
 fn left_behind(out: &mut Records, rng: &mut Rng, guest: u8) {
-    let (call, a, b) = some_call(rng);
+    let (call, a, b) = calls::any(rng);
     let other = other_than(rng, guest);
     come(out, other);
     come(out, guest);
@@ -94,29 +90,29 @@ fn left_behind(out: &mut Records, rng: &mut Rng, guest: u8) {
 fn at_once(out: &mut Records, rng: &mut Rng, guest: u8) {
     come(out, guest);
     for _ in 0..1 + rng.below(3) {
-        let (call, a, b) = some_call(rng);
+        let (call, a, b) = calls::any(rng);
         out.extend([record(10, a, b, call), [4, 7, 0, 0, a, b, 0, 1], drop(guest), CHMOD]);
     }
 }
 
 /// Every guest has a call; some are dropped, whoever is active, and one guest comes back.
 fn all_waiting(out: &mut Records, rng: &mut Rng) {
-    let first = rng.below(4) as u8;
-    for guest in (0..4).map(|i| (first + i) % 4) {
-        let (call, a, b) = some_call(rng);
+    let first = rng.below(GUESTS as usize) as u8;
+    for guest in (0..GUESTS).map(|i| (first + i) % GUESTS) {
+        let (call, a, b) = calls::any(rng);
         come(out, guest);
         out.push(record(10, a, b, call));
     }
     for _ in 0..rng.below(5) {
-        out.push(drop(rng.below(4) as u8));
+        out.push(drop(rng.below(GUESTS as usize) as u8));
     }
     out.extend([CHMOD, record(2, 8, 0, 0)]);
-    come(out, rng.below(4) as u8);
+    come(out, rng.below(GUESTS as usize) as u8);
 }
 
 /// Drops while the guest runs, of itself and of one that may have a call.
 fn running(out: &mut Records, rng: &mut Rng, guest: u8) {
-    let (call, a, b) = some_call(rng);
+    let (call, a, b) = calls::any(rng);
     let other = other_than(rng, guest);
     come(out, other);
     out.push(record(10, a, b, call));

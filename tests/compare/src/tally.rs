@@ -26,7 +26,7 @@ const NUMBERS: usize = 16;
 
 const SWITCH: u8 = 8;
 const DROP: u8 = 15;
-const GUESTS: u8 = 4;
+const GUESTS: u8 = second::GuestId::COUNT as u8;
 /// Kinds from here on are none.
 const NO_KIND: u8 = KINDS.len() as u8;
 

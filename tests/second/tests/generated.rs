@@ -7,7 +7,7 @@ use std::collections::BTreeSet;
 use second::gen::calls::{self, Calls};
 use second::gen::driver::Driver;
 use second::gen::{journal, PROFILES};
-use second::{decode, encode, fresh, step, valid, Action, Place, State};
+use second::{decode, encode, fresh, step, valid, Action, GuestId, Place, State};
 
 /// One record's passage.
 struct Passage<'a> {
@@ -183,7 +183,7 @@ fn count_drops(drops: &mut Drops, seed: u64, count: usize, profile: &str) {
     watch(seed, count, profile, |p| {
         let happened = calls.note(p.record, p.number, p.before);
         drops.fates.iter_mut().zip(happened).for_each(|(fate, so)| *fate += so as usize);
-        if p.record[0] == 15 && p.record[1] < 4 {
+        if p.record[0] == 15 && GuestId::new(p.record[1]).is_some() {
             let another = p.record[1] != p.before.active;
             drops.answers[p.number as usize][another as usize] += 1;
         }

@@ -1,6 +1,24 @@
-//! What came of the guests' calls, seen over several records.
+//! The guests' calls: any of them, and what came of them, seen over several records.
 
+use crate::numbers::{GuestId, Phys, Virt};
+use crate::rng::Rng;
 use crate::state::State;
+
+/// How many numbers the arguments a and b of each call have, from call 1 on.
+const ARGUMENTS: [(usize, usize); 5] = [
+    (Virt::COUNT, Phys::COUNT),
+    (Virt::COUNT, 1),
+    (Phys::COUNT, 1),
+    (Phys::COUNT, 2),
+    (Phys::COUNT, 1),
+];
+
+/// Any call with its arguments in range: its number, a and b.
+pub fn any(rng: &mut Rng) -> (u8, u8, u8) {
+    let call = rng.below(ARGUMENTS.len());
+    let (a, b) = ARGUMENTS[call];
+    (1 + call as u8, rng.below(a) as u8, rng.below(b) as u8)
+}
 
 pub const NAMES: [&str; 6] = [
     "call refused, then dropped",
@@ -22,7 +40,7 @@ enum Fate {
 /// The fate of each guest's latest call, and the two records before with their answers.
 #[derive(Default)]
 pub struct Calls {
-    fates: [Fate; 4],
+    fates: [Fate; GuestId::COUNT],
     latest: [(u8, u8, u8); 2],
 }
 

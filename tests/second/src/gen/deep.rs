@@ -1,6 +1,7 @@
 //! Long accepted runs: tables, stealth pages, sharing, evictions, pages used up
 //! and given back, over all guests.
 
+use crate::gen::calls;
 use crate::gen::driver::Driver;
 use crate::numbers::{Mach, Phys, Place, Virt, STEALTH};
 use crate::record::{Action, Call};
@@ -277,10 +278,8 @@ fn quiet(driver: &mut Driver) {
 
 /// A call that may be served or not, if the guest can make one.
 fn ask(driver: &mut Driver) -> bool {
-    let limits = [(64, 16), (64, 1), (16, 1), (16, 2), (16, 1)];
-    let number = driver.rng.below(limits.len());
-    let (a, b) = (driver.rng.below(limits[number].0), driver.rng.below(limits[number].1));
-    let call = Call::from_numbers(1 + number as u8, a as u8, b as u8);
+    let (number, a, b) = calls::any(&mut driver.rng);
+    let call = Call::from_numbers(number, a, b);
     driver.run_guest() && driver.accept(Action::Hcall(call))
 }
 
