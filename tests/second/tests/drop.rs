@@ -3,22 +3,26 @@
 mod support;
 
 use second::state::{Mode, Pending};
-use second::{fresh, valid, State};
+use second::{fresh, valid, GuestId, State};
 use support::Machine;
 
 const CALL: usize = 4364;
 const CALL_A: usize = 4368;
 const CALL_B: usize = 4372;
 
+const GUESTS: usize = GuestId::COUNT;
+/// Every guest's bit.
+const ALL: usize = (1 << GUESTS) - 1;
+
 /// A call for each guest, with arguments where its call has them.
-const CALLS: [(u8, u8, u8); 4] = [(1, 63, 15), (4, 15, 1), (2, 46, 0), (3, 9, 0)];
+const CALLS: [(u8, u8, u8); GUESTS] = [(1, 63, 15), (4, 15, 1), (2, 46, 0), (3, 9, 0)];
 
 /// The fresh machine, waiting, with calls of the guests whose bits are set.
 fn waiting(active: usize, with_calls: usize) -> Machine {
     let mut state = fresh();
     state.mode = Mode::Waiting;
     state.active = active as u8;
-    for guest in (0..4).filter(|guest| with_calls >> guest & 1 == 1) {
+    for guest in (0..GUESTS).filter(|guest| with_calls >> guest & 1 == 1) {
         let (number, a, b) = CALLS[guest];
         state.guests[guest].pending = Pending { number, a, b };
     }
@@ -26,8 +30,8 @@ fn waiting(active: usize, with_calls: usize) -> Machine {
     Machine(state)
 }
 
-fn calls(state: &State) -> [Pending; 4] {
-    [0, 1, 2, 3].map(|guest: usize| state.guests[guest].pending)
+fn calls(state: &State) -> [Pending; GUESTS] {
+    std::array::from_fn(|guest| state.guests[guest].pending)
 }
 
 /// Every guest has a call; the active one has lines, a stealth line among them, and TLB entries.
@@ -56,7 +60,7 @@ fn call_and_arguments_are_cleared_and_nothing_else() {
     let before = in_use();
     assert!(before.slot(0).is_some() && before.line(7, 0).is_some());
     assert!(before.line(7, 0).is_some_and(|(_, page, value)| before.memory(page.into()) != value));
-    for guest in 0..4 {
+    for guest in 0..GUESTS {
         let mut m = Machine(before.0.clone());
         let mut bytes = before.0.to_bytes();
         for field in [CALL, CALL_A, CALL_B] {
@@ -83,27 +87,29 @@ fn each_call_is_declined() {
 
 #[test]
 fn a_guest_has_a_call_or_none_whichever_is_active() {
-    for (active, named) in (0..4).flat_map(|active| (0..4).map(move |named| (active, named))) {
+    for (active, named) in
+        (0..GUESTS).flat_map(|active| (0..GUESTS).map(move |named| (active, named)))
+    {
         let one = 1 << named;
         assert_eq!(waiting(active, one).no(15, named as u8, 0), 0, "{active} {named}");
-        assert_eq!(waiting(active, 15).no(15, named as u8, 0), 0, "{active} {named}");
-        assert_eq!(waiting(active, 15 - one).no(15, named as u8, 0), 4, "{active} {named}");
+        assert_eq!(waiting(active, ALL).no(15, named as u8, 0), 0, "{active} {named}");
+        assert_eq!(waiting(active, ALL - one).no(15, named as u8, 0), 4, "{active} {named}");
         assert_eq!(waiting(active, 0).no(15, named as u8, 0), 4, "{active} {named}");
     }
 }
 
 #[test]
 fn two_before_three_before_four() {
-    for guest in 0..4 {
+    for guest in 0..GUESTS as u8 {
         let mut m = waiting(3, 0b0101);
         m.ok(12, 0, 0);
         assert_eq!(m.no(15, guest, 0), 3, "guest {guest}");
-        assert_eq!((m.no(15, guest, 1), m.no(15, guest + 4, 0)), (2, 2));
+        assert_eq!((m.no(15, guest, 1), m.no(15, guest + GUESTS as u8, 0)), (2, 2));
         m.ok(11, 0, 0);
-        assert_eq!((m.no(15, guest, 1), m.no(15, guest + 4, 0)), (2, 2));
+        assert_eq!((m.no(15, guest, 1), m.no(15, guest + GUESTS as u8, 0)), (2, 2));
         assert_eq!(m.no(15, guest, 0), [0, 4, 0, 4][guest as usize], "guest {guest}");
     }
-    let mut m = waiting(0, 15);
+    let mut m = waiting(0, ALL);
     for at in 2..8 {
         let mut record = [15, 0, 0, 0, 0, 0, 0, 0];
         record[at] = 1;
@@ -115,8 +121,8 @@ fn two_before_three_before_four() {
 /// drop where there is a call, switch, chmod: from every active guest, with every set of calls.
 #[test]
 fn any_guest_runs_within_three_records() {
-    for (active, set) in (0..4).flat_map(|active| (0..16).map(move |set| (active, set))) {
-        for guest in 0..4 {
+    for (active, set) in (0..GUESTS).flat_map(|active| (0..=ALL).map(move |set| (active, set))) {
+        for guest in 0..GUESTS {
             let mut m = waiting(active, set);
             let mut left = calls(&m.0);
             left[guest] = Pending { number: 0, a: 0, b: 0 };
