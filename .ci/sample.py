@@ -155,6 +155,8 @@ RPJ 1
 | run | from | records | answers |
 |---|---|---|---|
 | nine | fresh | new_sm 2; silent | 0; 0 5 |
+| handed | nine | ret_ctrl | 0 |
+| again | handed | ret_ctrl; silent | 3; 0 |
 """,
     "docs/CHECK.md": """
 | crate | check, s | edits | an edit, s |
@@ -173,7 +175,10 @@ All checks together are 0.8 minutes of one core. The 4 edits are 0.5 minutes of 
     # a machine of the three kinds above: silent after new_sm has the value 5
     "tools/start": """exec python3 -c '
 import sys
+source, target = (sys.argv[2:] + ["", ""])[:2]
 journal, running, last = sys.stdin.buffer.read()[8:], True, None
+if source:
+    running, last = eval(open(source).read())
 for n in range(len(journal) // 8):
     kind, a, b, *rest = journal[8 * n : 8 * n + 8]
     good = not any(rest) and (kind in (0, 11) and a == b == 0 or kind == 1 and a == 7 and b < 4)
@@ -181,7 +186,9 @@ for n in range(len(journal) // 8):
     running = running and kind != 11
     print(n + 1, number, 5 if kind == 0 and last == 1 else 0)
     last = kind
-'
+if target:
+    open(target, "w").write(repr((running, last)))
+' "$@"
 """,
     "crates/rpj/stdout": "RPJ 1\n1 0 0\n2 0 5\n",
     "include/ration.h": """/* void ration_none(void); RATION_KIND_GONE = 3 */

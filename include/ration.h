@@ -1,12 +1,13 @@
-/* The ration host on lent bytes: its functions, and every number of a record, an answer, a report and a journal. docs/HOST.md has
- * the rules behind them, docs/STATE.md the layout of a state, crates/ration/src/lib.rt the promises that are proved.
+/* The ration host on lent bytes: its functions, and every number of a record, an answer, a report, a journal and an image.
+ * docs/HOST.md has the rules behind them, docs/STATE.md the layout of a state, docs/IMAGE.md that of an image, and
+ * crates/ration/src/lib.rt the promises that are proved.
  * `tools/archive DIR` writes DIR/libration.a, for `cc -Iinclude program.c DIR/libration.a`.
  *
  * The proofs assume of a caller what Rust's references do. For each pointer: it is not null, it stays good for the call, and it
  * leads to exactly as many bytes as its parameter says (a length may be 0, and its pointer is then still not null). No byte that a
  * function writes (a parameter without const) is part of another parameter, or used by another thread during the call, and no byte
  * that it reads changes meanwhile. Nothing is
- * assumed of the bytes themselves: any 4,754 bytes are a state, any bytes a record or a journal, and each has its answer.
+ * assumed of the bytes themselves: any 4,754 bytes are a state, any bytes a record, a journal or an image, and each has its answer.
  * No function keeps a pointer, allocates or fails. */
 #ifndef RATION_H
 #define RATION_H
@@ -41,12 +42,20 @@ enum {
     RATION_REPORT_REFUSED = 12,   /* those that were refused */
     RATION_REPORT_LEFT_OVER = 16, /* bytes after the last whole record, 0 to 7, which are not run */
 
-    RATION_HEADER = 8,         /* a journal's header, RATION_HEADER_BYTES; its records follow, with nothing between */
-    RATION_RECORD_LIMIT = 4096 /* the most whole records of a journal */
+    RATION_HEADER = 8,          /* a journal's header, RATION_HEADER_BYTES; its records follow, with nothing between */
+    RATION_RECORD_LIMIT = 4096, /* the most whole records of a journal */
+
+    RATION_IMAGE = 4759,         /* an image, of version 1; ration_image_size() answers it */
+    RATION_IMAGE_MARK_AT = 0,    /* the letters RPS */
+    RATION_IMAGE_VERSION_AT = 3, /* 16 bits, low byte first */
+    RATION_IMAGE_STATE_AT = 5    /* after RATION_IMAGE_FIRST_BYTES the fields of the state, to the end */
 };
 
 /* A journal's first bytes: the mark, version 1 as 16 bits, three zeros. memcpy(journal, RATION_HEADER_BYTES, RATION_HEADER) */
 #define RATION_HEADER_BYTES "RPJ\001\000\000\000\000"
+
+/* An image's first bytes: the mark, version 1 as 16 bits. memcmp(image, RATION_IMAGE_FIRST_BYTES, RATION_IMAGE_STATE_AT) */
+#define RATION_IMAGE_FIRST_BYTES "RPS\001\000"
 
 /* How many there are of each; each counts from 0. A virtual address (va) is what guests read and write, a physical one (pa) says
  * which of a guest's own pages is meant. */
@@ -103,11 +112,12 @@ enum ration_pin {
     RATION_PIN_TABLE = 1 /* a table of the guest's addresses; it is empty */
 };
 
-/* The number of an answer or of a report. Checks run in this order, and the first that applies is the answer. 1 to 12 are a
- * record's, 1 and 13 to 15 a journal's. A page is shared from when two addresses lead to it at once until it is unpinned. */
+/* The number of an answer or of a report, and what saving and loading answer. Checks run in this order, and the first that applies
+ * is the answer; but loading checks 16 before 1. 1 to 12 are a record's, 1 and 13 to 15 a journal's, 1 and 16 an image's. A page is
+ * shared from when two addresses lead to it at once until it is unpinned. */
 enum ration_number {
-    RATION_DONE = 0,                      /* the record was done, or the journal was run */
-    RATION_REFUSED_STATE = 1,             /* the state is not valid; of a record or of a journal */
+    RATION_DONE = 0,                      /* the record was done, the journal was run, or the image was saved or loaded */
+    RATION_REFUSED_STATE = 1,             /* the state is not valid; of a record, a journal or an image */
     RATION_REFUSED_RECORD = 2,            /* not 8 bytes, unknown kind or call, argument out of range, unused byte not 0 */
     RATION_REFUSED_MODE = 3,              /* a guest's action while the host has control, or the host's while a guest runs */
     RATION_REFUSED_CALL = 4,              /* the call is not exactly this one; chmod, switch: the guest has one; drop: it has none */
@@ -121,14 +131,16 @@ enum ration_number {
     RATION_REFUSED_IN_USE = 12,           /* unpin: the current table, a table with entries, or a page that some table maps */
     RATION_REFUSED_HEADER = 13,           /* a journal's first 8 bytes are missing or different */
     RATION_REFUSED_TOO_MANY_RECORDS = 14, /* a journal has more than 4,096 whole records */
-    RATION_REFUSED_ANSWER_BUFFER = 15     /* the answer buffer has less than 8 bytes for each whole record */
+    RATION_REFUSED_ANSWER_BUFFER = 15,    /* the answer buffer has less than 8 bytes for each whole record */
+    RATION_REFUSED_IMAGE = 16             /* mark, version or length is not an image's; saving: the buffer's length is not */
 };
 
-/* The bytes of a state, of an answer and of a report, as the archive has them. Where one is not the size above, header and archive
- * do not belong together, and nothing may be lent to the other functions. */
+/* The bytes of a state, of an answer, of a report and of an image, as the archive has them. Where one is not the size above, header
+ * and archive do not belong together, and nothing may be lent to the other functions. */
 size_t ration_size(void);
 size_t ration_answer_size(void);
 size_t ration_report_size(void);
+size_t ration_image_size(void);
 
 /* Makes the state the fresh machine, whatever its bytes were. */
 void ration_fresh(uint8_t state[RATION_SIZE]);
@@ -148,6 +160,17 @@ void ration_step(uint8_t state[RATION_SIZE], const uint8_t *record, size_t lengt
  * rest of its report is zeros. */
 void ration_run(uint8_t state[RATION_SIZE], const uint8_t *journal, size_t length, uint8_t *answers, size_t room,
                 uint8_t report[RATION_REPORT]);
+
+/* Writes the whole state to image, which has length bytes, and answers RATION_DONE; the state stays as it was. RATION_REFUSED_STATE
+ * if the state is not valid, then RATION_REFUSED_IMAGE if length is not RATION_IMAGE: image is then as it was. Whoever keeps the image
+ * in a file writes a new file beside the old one, syncs it, renames it and syncs the folder, as ./rpj does: a loss of power then
+ * leaves one of them. */
+uint8_t ration_save(const uint8_t state[RATION_SIZE], uint8_t *image, size_t length);
+
+/* Makes the state the one that the image of length bytes holds, whatever its bytes were, and answers RATION_DONE.
+ * RATION_REFUSED_IMAGE if these bytes are no image, then RATION_REFUSED_STATE if the state that it holds is not valid: state is then
+ * as it was. */
+uint8_t ration_load(uint8_t state[RATION_SIZE], const uint8_t *image, size_t length);
 
 #ifdef __cplusplus
 }

@@ -5,12 +5,13 @@
 
 #include "ration.h"
 
-enum { KINDS = RATION_KIND_DROP + 1, NUMBERS = RATION_REFUSED_ANSWER_BUFFER + 1, HOST_PAGES = 4 };
+enum { KINDS = RATION_KIND_DROP + 1, NUMBERS = RATION_REFUSED_IMAGE + 1, HOST_PAGES = 4 };
 
 static uint8_t state[RATION_SIZE];
 static uint8_t report[RATION_REPORT];
 static uint8_t journal[RATION_HEADER + RATION_RECORD * (RATION_RECORD_LIMIT + 2)];
 static uint8_t answers[RATION_ANSWER * (RATION_RECORD_LIMIT + 1)];
+static uint8_t image[RATION_IMAGE + 1];
 static bool accepted[KINDS], given[NUMBERS];
 static unsigned compared, differences;
 
@@ -66,6 +67,7 @@ static void sizes(void) {
     same("RATION_SIZE", "ration_size()", (uint32_t)ration_size(), RATION_SIZE);
     same("RATION_ANSWER", "ration_answer_size()", (uint32_t)ration_answer_size(), RATION_ANSWER);
     same("RATION_REPORT", "ration_report_size()", (uint32_t)ration_report_size(), RATION_REPORT);
+    same("RATION_IMAGE", "ration_image_size()", (uint32_t)ration_image_size(), RATION_IMAGE);
 }
 
 static void ranges(void) {
@@ -245,6 +247,74 @@ static void reports(void) {
     runs("STATE of a journal", 6, 0, sizeof answers, RATION_REFUSED_STATE);
 }
 
+/* Saving to, or loading from, this many bytes of image: the number, and that a refusal leaves state and image, and a save the state. */
+static void answers_image(const char *what, bool saves, size_t length, int number) {
+    static uint8_t state_before[RATION_SIZE], image_before[sizeof image];
+    memcpy(state_before, state, sizeof state);
+    memcpy(image_before, image, sizeof image);
+    uint8_t answer = saves ? ration_save(state, image, length) : ration_load(state, image, length);
+    same(what, "the number", answer, (uint32_t)number);
+    if (answer < NUMBERS) {
+        given[answer] = true;
+    }
+    if (saves || number != RATION_DONE) {
+        same(what, "the state stays", memcmp(state, state_before, sizeof state) == 0, true);
+    }
+    if (!saves || number != RATION_DONE) {
+        same(what, "the image stays", memcmp(image, image_before, sizeof image) == 0, true);
+    }
+}
+
+#define SAVES(number, length) answers_image("save " #length ": " #number, true, length, RATION_##number)
+#define LOADS(number, length) answers_image("load " #length ": " #number, false, length, RATION_##number)
+
+/* A page of guest 0 with 300, saved, and loaded over a damaged state. */
+static void images(void) {
+    static uint8_t kept[RATION_SIZE];
+    ration_fresh(state);
+    SERVES(PIN, 1, RATION_PIN_DATA);
+    SERVES(NEW, 0, 1);
+    WRITES(WRITE, 0, 300);
+    memcpy(kept, state, sizeof kept);
+    memset(image, 255, sizeof image);
+    SAVES(REFUSED_IMAGE, RATION_IMAGE - 1);
+    SAVES(REFUSED_IMAGE, RATION_IMAGE + 1);
+    SAVES(REFUSED_IMAGE, 0);
+    SAVES(DONE, RATION_IMAGE);
+    same("RATION_IMAGE", "the byte behind it", image[RATION_IMAGE], 255);
+    same("RATION_IMAGE_FIRST_BYTES", "the first bytes", memcmp(image, RATION_IMAGE_FIRST_BYTES, RATION_IMAGE_STATE_AT) == 0, true);
+    same("RATION_IMAGE_MARK_AT", "the mark", memcmp(image + RATION_IMAGE_MARK_AT, "RPS", RATION_IMAGE_VERSION_AT - RATION_IMAGE_MARK_AT) == 0, true);
+    same("RATION_IMAGE_VERSION_AT", "the version", image[RATION_IMAGE_VERSION_AT] | image[RATION_IMAGE_VERSION_AT + 1] << 8, 1);
+    same("RATION_IMAGE_STATE_AT", "the state", memcmp(image + RATION_IMAGE_STATE_AT, state, sizeof state) == 0, true);
+    same("RATION_IMAGE_STATE_AT", "its bytes", RATION_IMAGE - RATION_IMAGE_STATE_AT, RATION_SIZE);
+    memset(state, 255, sizeof state);
+    LOADS(REFUSED_IMAGE, RATION_IMAGE - 1);
+    LOADS(REFUSED_IMAGE, RATION_IMAGE + 1);
+    LOADS(REFUSED_IMAGE, 0);
+    LOADS(DONE, RATION_IMAGE);
+    same("what was loaded", "is what was saved", memcmp(state, kept, sizeof kept) == 0, true);
+    READS(READ, 0, 300);
+}
+
+/* What is wrong in an image, and in a state that is saved; each check before the next. */
+static void refused_images(void) {
+    ration_fresh(state);
+    SAVES(DONE, RATION_IMAGE);
+    image[RATION_IMAGE_STATE_AT] ^= 255;
+    LOADS(REFUSED_STATE, RATION_IMAGE);
+    for (size_t i = 0; i < RATION_IMAGE_STATE_AT; i++) {
+        image[i] ^= 32; /* a small letter, or another version */
+        LOADS(REFUSED_IMAGE, RATION_IMAGE);
+        image[RATION_IMAGE_STATE_AT] ^= 255;
+        LOADS(REFUSED_IMAGE, RATION_IMAGE);
+        image[RATION_IMAGE_STATE_AT] ^= 255;
+        image[i] ^= 32;
+    }
+    state[0] ^= 255;
+    SAVES(REFUSED_STATE, RATION_IMAGE);
+    SAVES(REFUSED_STATE, 0);
+}
+
 static void all_met(void) {
     char what[32];
     for (int kind = 0; kind < KINDS; kind++) {
@@ -268,6 +338,8 @@ int main(void) {
         refusals();
         no_free_page();
         reports();
+        images();
+        refused_images();
         all_met();
     }
     printf("%u compared, %u differ\n", compared, differences);

@@ -1,5 +1,5 @@
-/* Stands in for libration.a: one of its sizes is one byte more, that which RATION_OTHER names ("state", "answer" or "report"). A program
- * that lends it a byte all the same is ended. */
+/* Stands in for libration.a: one of its sizes is one byte more, that which RATION_OTHER names ("state", "answer", "report" or "image"). A
+ * program that lends it a byte all the same is ended. */
 #include <stdlib.h>
 #include <string.h>
 
@@ -20,6 +20,10 @@ size_t ration_answer_size(void) {
 
 size_t ration_report_size(void) {
     return size_of("report", RATION_REPORT);
+}
+
+size_t ration_image_size(void) {
+    return size_of("image", RATION_IMAGE);
 }
 
 void ration_fresh(uint8_t state[RATION_SIZE]) {
@@ -45,5 +49,15 @@ void ration_step(uint8_t state[RATION_SIZE], const uint8_t *record, size_t lengt
 void ration_run(uint8_t state[RATION_SIZE], const uint8_t *journal, size_t length, uint8_t *answers, size_t room,
                 uint8_t report[RATION_REPORT]) {
     (void)state, (void)journal, (void)length, (void)answers, (void)room, (void)report;
+    abort();
+}
+
+uint8_t ration_save(const uint8_t state[RATION_SIZE], uint8_t *image, size_t length) {
+    (void)state, (void)image, (void)length;
+    abort();
+}
+
+uint8_t ration_load(uint8_t state[RATION_SIZE], const uint8_t *image, size_t length) {
+    (void)state, (void)image, (void)length;
     abort();
 }

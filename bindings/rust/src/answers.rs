@@ -43,7 +43,8 @@ impl Answer {
     }
 }
 
-/// Why a record or a journal was refused. Checks run in this order, and the first that applies is the answer.
+/// Why a record, a journal or an image was refused. Checks run in this order, and the first that applies is the answer; but
+/// [`Host::load`](crate::Host::load) checks 16 before 1.
 #[derive(Clone, Copy, Debug, PartialEq, Eq, Hash)]
 pub enum Refusal {
     /// 1: the state is not valid.
@@ -77,6 +78,8 @@ pub enum Refusal {
     TooManyRecords,
     /// 15: the answer buffer has less than 8 bytes for each whole record.
     AnswerBuffer,
+    /// 16: the bytes are no image: their mark, version or length is different.
+    Image,
     /// A number that has no name here. The library that this package was written for gives none; a later one, or bytes from
     /// elsewhere, may. It is kept as it is, since to panic would end a caller that only looks at bytes, and to answer one of the
     /// reasons above would be a lie.
@@ -89,7 +92,7 @@ pub struct Unknown(u32);
 
 impl Refusal {
     /// Every refusal that has a name, in the order of the numbers.
-    pub const ALL: [Refusal; 15] = [
+    pub const ALL: [Refusal; 16] = [
         Refusal::State,
         Refusal::Record,
         Refusal::Mode,
@@ -105,6 +108,7 @@ impl Refusal {
         Refusal::Header,
         Refusal::TooManyRecords,
         Refusal::AnswerBuffer,
+        Refusal::Image,
     ];
 
     /// The refusal of a number; `None` for 0, which is no refusal.
@@ -131,6 +135,7 @@ impl Refusal {
             Refusal::Header => 13,
             Refusal::TooManyRecords => 14,
             Refusal::AnswerBuffer => 15,
+            Refusal::Image => 16,
             Refusal::Other(Unknown(number)) => number,
         }
     }
@@ -152,6 +157,7 @@ impl Refusal {
             Refusal::Header => "this is no journal: its first eight bytes are missing or different",
             Refusal::TooManyRecords => "the journal has more than 4096 records",
             Refusal::AnswerBuffer => "the room for answers is too small: each record needs eight bytes",
+            Refusal::Image => "this is no image of a host: its mark, its version or its length is different",
             Refusal::Other(_) => "this package has no words for this number",
         }
     }

@@ -5,6 +5,8 @@ use crate::{Action, Answer, Refusal, Report, ANSWER};
 
 /// The bytes of a state.
 pub const SIZE: usize = 4754;
+/// The bytes of an image.
+pub const IMAGE_SIZE: usize = 4759;
 
 mod c {
     use super::{ANSWER, REPORT, SIZE};
@@ -13,6 +15,7 @@ mod c {
         pub fn ration_size() -> usize;
         pub fn ration_answer_size() -> usize;
         pub fn ration_report_size() -> usize;
+        pub fn ration_image_size() -> usize;
         pub fn ration_fresh(state: *mut [u8; SIZE]);
         pub fn ration_valid(state: *const [u8; SIZE]) -> bool;
         pub fn ration_free_pages(state: *const [u8; SIZE]) -> u32;
@@ -30,18 +33,28 @@ mod c {
             room: usize,
             report: *mut [u8; REPORT],
         );
+        pub fn ration_save(state: *const [u8; SIZE], image: *mut u8, length: usize) -> u8;
+        pub fn ration_load(state: *mut [u8; SIZE], image: *const u8, length: usize) -> u8;
     }
 }
 
 /// Panics where the archive was built with other sizes than this package: it would write past what is lent to it.
 fn compare_sizes() {
     // these lend nothing
-    let archive = unsafe { [c::ration_size(), c::ration_answer_size(), c::ration_report_size()] };
-    let package = [SIZE, ANSWER, REPORT];
+    let archive = unsafe {
+        [c::ration_size(), c::ration_answer_size(), c::ration_report_size(), c::ration_image_size()]
+    };
+    let package = [SIZE, ANSWER, REPORT, IMAGE_SIZE];
     assert!(
         archive == package,
-        "libration.a has {archive:?} bytes for a state, an answer and a report, this package {package:?}: they do not belong together"
+        "libration.a has {archive:?} bytes for a state, an answer, a report and an image, this package {package:?}: \
+         they do not belong together"
     );
+}
+
+/// What saving and loading answer: a number, 0 for done.
+fn done(number: u8) -> Result<(), Refusal> {
+    Refusal::from_number(number.into()).map_or(Ok(()), Err)
 }
 
 /// A host and its state.
@@ -84,7 +97,7 @@ impl Host {
         Host::of(Box::new(bytes))
     }
 
-    /// The bytes of the state, to be kept and handed to [`Host::from_bytes`] later.
+    /// The bytes of the state, for [`Host::from_bytes`]. What is to be kept longer than the program runs is kept by [`Host::save`].
     pub fn bytes(&self) -> &[u8; SIZE] {
         &self.0
     }
@@ -127,5 +140,20 @@ impl Host {
             )
         };
         Report::from_bytes(report)
+    }
+
+    /// The whole state as an image, to be kept in a file and handed to [`Host::load`] later (`docs/IMAGE.md` has its layout). Equal
+    /// states have equal images. Refused with [`Refusal::State`] if the state is not valid.
+    pub fn save(&self) -> Result<[u8; IMAGE_SIZE], Refusal> {
+        let mut image = [0; IMAGE_SIZE];
+        done(unsafe { c::ration_save(&*self.0, image.as_mut_ptr(), image.len()) })?;
+        Ok(image)
+    }
+
+    /// Makes the state the one that the image holds, whatever it was before: any bytes, of any length. Refused with
+    /// [`Refusal::Image`] if they are no image, then with [`Refusal::State`] if the state that the image holds is not valid; the
+    /// state is then as it was.
+    pub fn load(&mut self, image: &[u8]) -> Result<(), Refusal> {
+        done(unsafe { c::ration_load(&mut *self.0, image.as_ptr(), image.len()) })
     }
 }

@@ -20,6 +20,12 @@
 //! assert_eq!(host.act(Action::Pin(Pa(1), PinKind::Data)), Answer::Refused(Refusal::PlaceTaken));
 //! assert_eq!(host.act(Action::Drop(Guest(0))), done);
 //! assert_eq!(host.act(Action::Chmod), done);
+//! // the host is saved, and another one goes on where it ended
+//! let image = host.save()?;
+//! let mut other = Host::fresh();
+//! other.load(&image)?;
+//! assert_eq!(other, host);
+//! # Ok::<(), Refusal>(())
 //! ```
 #![warn(missing_docs)]
 
@@ -28,5 +34,5 @@ mod host;
 mod records;
 
 pub use answers::{Answer, Refusal, Report, Unknown, ANSWER};
-pub use host::{Host, SIZE};
+pub use host::{Host, IMAGE_SIZE, SIZE};
 pub use records::{journal, Action, Call, Guest, Pa, PinKind, Va, HEADER, RECORD};

@@ -5,8 +5,8 @@ use std::collections::BTreeSet;
 use ration::{Answer, Refusal, Report};
 
 #[test]
-fn numbers_from_1_to_15() {
-    assert!(Refusal::ALL.iter().map(|refusal| refusal.number()).eq(1..=15));
+fn numbers_from_1_to_16() {
+    assert!(Refusal::ALL.iter().map(|refusal| refusal.number()).eq(1..=16));
     for refusal in Refusal::ALL {
         assert_eq!(Refusal::from_number(refusal.number()), Some(refusal));
     }
@@ -25,7 +25,7 @@ fn answers_from_bytes() {
 #[test]
 fn a_number_without_a_name_is_shown() {
     for (bytes, number) in [
-        ([16, 0, 0, 0], 16),
+        ([17, 0, 0, 0], 17),
         ([255, 0, 0, 0], 255),
         ([0, 1, 0, 0], 256),
         ([6, 0, 0, 128], 0x80000006),

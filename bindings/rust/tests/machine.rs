@@ -4,7 +4,7 @@ use std::collections::{BTreeSet, HashSet};
 
 use ration::{
     journal, Action, Answer, Call, Guest, Host, Pa, PinKind, Refusal, Report, Va, ANSWER, HEADER,
-    RECORD, SIZE,
+    IMAGE_SIZE, RECORD, SIZE,
 };
 
 /// A guest asks, and the host does it and lets the guest run on.
@@ -82,6 +82,21 @@ fn the_same_as_a_journal() {
     assert!(answered.eq(values.into_iter().map(Answer::Done)));
 }
 
+/// Between any two actions of the script: a host that is saved, and loaded over another, is the same, and goes on as it would have.
+#[test]
+fn saved_and_loaded_at_every_place() {
+    let mut host = Host::fresh();
+    for (action, value) in script() {
+        let image = host.save().unwrap();
+        let mut other = Host::from_bytes([255; SIZE]);
+        assert_eq!(other.load(&image), Ok(()));
+        assert_eq!(other, host);
+        assert_eq!(other.save(), Ok(image));
+        assert_eq!(other.act(action), Answer::Done(value), "{action}");
+        host = other;
+    }
+}
+
 /// The host has control, the active guest is this one, and the guests whose bits are set have calls that cannot be served.
 fn called(active: u8, callers: u8) -> Host {
     let mut host = Host::fresh();
@@ -154,7 +169,7 @@ fn refused_drops() -> Vec<(Refusal, Vec<Action>, Action)> {
     ]
 }
 
-// Each of the next four asserts refusals by their names, and hands them on so that the test below sees whether all were given.
+// Each of the next five asserts refusals by their names, and hands them on so that the test below sees whether all were given.
 
 fn of_records() -> Vec<Refusal> {
     for (refusal, before, action) in [refusals(), refused_drops()].concat() {
@@ -207,9 +222,36 @@ fn of_journals() -> Vec<Refusal> {
     vec![Refusal::TooManyRecords, Refusal::AnswerBuffer, Refusal::Header]
 }
 
+fn of_images() -> Vec<Refusal> {
+    let image = Host::fresh().save().unwrap();
+    let with = |places: &[usize]| {
+        let mut other = image.to_vec();
+        places.iter().for_each(|place| other[*place] = 1);
+        other
+    };
+    let (mark, line) = (0, IMAGE_SIZE - 1); // a letter, and the value of an empty line
+    let refused = [
+        (Refusal::State, with(&[line])),
+        (Refusal::Image, with(&[mark])),
+        (Refusal::Image, with(&[mark, line])),
+        (Refusal::Image, image[..IMAGE_SIZE - 1].to_vec()),
+        (Refusal::Image, [&image[..], &[0]].concat()),
+        (Refusal::Image, vec![]),
+    ];
+    for (refusal, bytes) in &refused {
+        let mut other = Host::from_bytes([255; SIZE]);
+        assert_eq!(other.load(bytes), Err(*refusal));
+        assert_eq!(other.bytes(), &[255; SIZE]);
+    }
+    assert_eq!(Host::from_bytes([255; SIZE]).save(), Err(Refusal::State));
+    refused.into_iter().map(|(refusal, _)| refusal).collect()
+}
+
 #[test]
 fn every_refusal_is_given() {
-    let given = [of_records(), of_a_damaged_state(), of_the_last_page(), of_journals()].concat();
+    let given =
+        [of_records(), of_a_damaged_state(), of_the_last_page(), of_journals(), of_images()]
+            .concat();
     assert_eq!(HashSet::from_iter(given), HashSet::from(Refusal::ALL));
 }
 

@@ -4,3 +4,4 @@ pub mod Parts
 pub mod Journals
 pub mod Folds
 pub mod Resumes
+pub mod Images

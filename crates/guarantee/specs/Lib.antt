@@ -1,2 +1,3 @@
 pub mod Guarantee
 pub mod Resumes
+pub mod Images

@@ -1,15 +1,16 @@
 -- What a store and a read at one place is of the parts of a list.
 -- Assumes nothing.
 use mathlib.Core.Path.{_≡_, refl, sym, ap, _∙_}
-use mathlib.Core.List.{List, [], _∷_, _++_}
-use Prim.Native.Nat.{ℕ, zero, suc, _+_, _-_, _≤_, _<_}
-use native.Mathlib.Nat.{zero-add, add-assoc, not-suc-le-zero}
+use mathlib.Core.List.{List, [], _∷_}
+use Prim.Native.Nat.{ℕ, zero, suc, _+_, _≤_, _<_}
+use native.Mathlib.Nat.{zero-add, add-assoc}
 use native.Mathlib.Omega.{arith}
-use Rattle.laws.proofs.Cases.{below?}
 use Rattle.model.specs.Records.{wordAt}
-use Rattle.host.specs.Cut.{cut, begin, size, part, edit, total, setWord, Small}
-use lib.ListN.{length, getD, take, drop, set, length-take, length-drop, List·getD-eq-default}
-use lib.Seq.{set-out, length-take-le, take-all, take-add, take-set-lt, take-set-le, drop-set-lt, drop-set-add, getD-take, getD-drop}
+use Rattle.laws.specs.Cut.{cut, begin, size, part, edit}
+use Rattle.laws.proofs.Cut.{cut-get}
+use Rattle.host.specs.Words.{setWord}
+use lib.ListN.{length, getD, take, drop, set, length-take, List·getD-eq-default}
+use lib.Seq.{set-out, take-set-lt, take-set-le, drop-set-lt, drop-set-add}
 
 -- a store at place i of part k edits part k and no other
 pub cut-set : (ns : List ℕ) (k i v : ℕ) (xs : List ℕ) → i < size ns k → cut ns (set xs (begin ns k + i) v) ≡ edit k (λ s. set s i v) (cut ns xs)
@@ -19,12 +20,6 @@ cut-set (n ∷ ns) (suc k) i v xs h =
     let le : n ≤ n + (begin ns k + i) = omega arith in
     rw (add-assoc, take-set-le n xs (n + (begin ns k + i)) v le, drop-set-add)
     (ap (λ (r : List (List ℕ)). take n xs ∷ r) (cut-set ns k i v (drop n xs) h))
-
--- a read at place i of part k
-pub cut-get : (ns : List ℕ) (k i : ℕ) (xs : List ℕ) → i < size ns k → getD xs (begin ns k + i) 0 ≡ getD (part (cut ns xs) k) i 0
-cut-get [] k i xs h = absurd (not-suc-le-zero h)
-cut-get (n ∷ ns) zero i xs h = rw (zero-add, getD-take n xs i 0 h)
-cut-get (n ∷ ns) (suc k) i xs h = rw (add-assoc, ← getD-drop) (cut-get ns k i (drop n xs) h)
 
 -- a part is no longer than its size, whatever the list
 pub cut-le : (ns : List ℕ) (k : ℕ) (xs : List ℕ) → length (part (cut ns xs) k) ≤ size ns k
@@ -71,28 +66,3 @@ cut-get-word ns k a xs h =
       cut-get ns k (a + 2) xs (omega arith),
       cut-get ns k (a + 3) xs (omega arith),
     )
-
--- the parts of a list that is long enough have their sizes
-pub cut-length : (ns : List ℕ) (k : ℕ) (xs : List ℕ) → total ns ≤ length xs → length (part (cut ns xs) k) ≡ size ns k
-cut-length [] k xs h = refl
-cut-length (n ∷ ns) zero xs h = length-take-le n xs (omega arith)
-cut-length (n ∷ ns) (suc k) xs h = cut-length ns k (drop n xs) (omega (arith, length-drop n xs))
-
-abbrev pub joined : List (List ℕ) → List ℕ
-joined [] = []
-joined (p ∷ ps) = p ++ joined ps
-
--- the parts together are the list
-pub cut-joined : (ns : List ℕ) (xs : List ℕ) → joined (cut ns xs) ≡ take (total ns) xs
-cut-joined [] xs = refl
-cut-joined (n ∷ ns) xs = ap (λ (r : List ℕ). take n xs ++ r) (cut-joined ns (drop n xs)) ∙ sym (take-add n (total ns) xs)
-
-pub cut-inj : (ns : List ℕ) (xs ys : List ℕ) → length xs ≡ total ns → length ys ≡ total ns → cut ns xs ≡ cut ns ys → xs ≡ ys
-cut-inj ns xs ys l m e =
-    sym (take-all (total ns) xs (omega arith)) ∙ sym (cut-joined ns xs) ∙ ap joined e ∙ cut-joined ns ys ∙ take-all (total ns) ys (omega arith)
-
--- the parts of bytes are bytes
-pub cut-bytes : (ns : List ℕ) (k : ℕ) (xs : List ℕ) → Small xs → Small (part (cut ns xs) k)
-cut-bytes [] k xs b i = omega arith
-cut-bytes (n ∷ ns) zero xs b i = below? i n (λ h. rw (getD-take n xs i 0 h) (b i)) (λ h. omega (arith, cut-get-out (n ∷ ns) zero i xs h))
-cut-bytes (n ∷ ns) (suc k) xs b i = cut-bytes ns k (drop n xs) (λ j. rw (getD-drop n xs j 0) (b (n + j))) i

@@ -10,7 +10,7 @@ use Rattle.laws.specs.Search.{seekFrom, allIn}
 use Rattle.laws.proofs.Tests.{eq⇔, and⇔}
 use Rattle.laws.proofs.Search.{at-entry}
 use Rattle.host.specs.declared.Field.{Field}
-use Rattle.host.specs.Cut.{begin, size}
+use Rattle.laws.specs.Cut.{begin, size}
 use Rattle.host.specs.View.{sizes}
 
 abbrev pub field : ℕ → ℕ → Field

@@ -2,15 +2,15 @@
 -- Assumes nothing.
 use mathlib.Core.Path.{_≡_, refl, sym, ap, _∙_}
 use mathlib.Core.List.{List}
-use Prim.Native.Nat.{ℕ, _+_, _<_}
+use Prim.Native.Nat.{ℕ, _<_}
 use native.Mathlib.Omega.{arith}
-use lib.ListN.{length, set}
+use lib.ListN.{length}
 use lib.Seq.{ext-getD}
 use Rattle.laws.specs.Choice.{at}
 use Rattle.laws.specs.Search.{listFrom, listOf}
-use Rattle.laws.proofs.Lists.{at-set, length-listOf, getD-listOf}
+use Rattle.laws.proofs.Lists.{length-listOf, getD-listOf}
 use Rattle.model.specs.Fresh.{freshPages, freshGuests, freshCache, fresh}
-use Rattle.host.specs.Cut.{words}
+use Rattle.model.specs.Fields.{words}
 use Rattle.host.specs.View.{bytes, view}
 use Rattle.host.specs.FreshBytes.{freshByte}
 
@@ -25,9 +25,3 @@ filled-fresh xs l e = ap view same ∙ view-fresh
     same =
         ext-getD 0 xs (listOf bytes freshByte) (l ∙ sym (length-listOf bytes freshByte))
         (λ j h. e j (omega arith) ∙ sym (getD-listOf bytes freshByte 0 j (omega arith)))
-
--- one byte more is stored
-pub one-more : (xs : List ℕ) (i v : ℕ) → i < length xs → v ≡ freshByte i → ((j : ℕ) → j < i → at xs j ≡ freshByte j)
-    → (j : ℕ) → j < i + 1 → at (set xs i v) j ≡ freshByte j
-one-more xs i v h e before j k =
-    at-set (λ x. x ≡ freshByte j) xs i v j h (λ q. e ∙ ap freshByte (sym q)) (λ n. before j (omega arith))

@@ -1,20 +1,21 @@
 -- The state fixes every byte: its lists have their sizes, its numbers are bytes and 32-bit values, and equal states come from equal bytes.
 -- Assumes nothing.
-use mathlib.Core.Path.{_≡_, ap}
-use mathlib.Core.List.{List, [], _∷_}
-use Prim.Native.Nat.{ℕ, _+_, _*_, _^_, _<_}
+use mathlib.Core.Path.{_≡_, sym, ap, _∙_}
+use mathlib.Core.List.{List}
+use Prim.Native.Nat.{ℕ, _*_, _^_, _<_}
 use native.Mathlib.Omega.{arith}
 use lib.ListN.{length}
-use Rattle.laws.specs.Choice.{at}
 use Rattle.laws.proofs.Cases.{below?}
-use Rattle.model.specs.Sizes.{pages, lines, byteBound, valueBound}
+use Rattle.laws.proofs.Cut.{cut-length}
+use Rattle.model.specs.Sizes.{pages, lines, byteBound}
 use Rattle.model.specs.State.{State}
-use Rattle.model.specs.Records.{wordAt}
 use Rattle.model.specs.Valid.{Sized}
-use Rattle.host.specs.Cut.{cut, size, part, words, Small}
-use Rattle.host.specs.View.{sizes, long, view, Whole}
-use Rattle.host.proofs.Cut.{cut-length, cut-inj, cut-bytes}
-use Rattle.host.proofs.Words.{length-words, words-get, words-out, words-inj, two-words}
+use Rattle.laws.specs.Cut.{cut, size, part, joined}
+use Rattle.model.proofs.Image.{fields-held}
+use Rattle.model.proofs.Fields.{Valued, cut-bytes, word-below}
+use Rattle.model.specs.Fields.{words, long, stateFields, Small}
+use Rattle.host.specs.View.{sizes, view, Whole}
+use Rattle.host.proofs.Words.{length-words, words-get, words-out}
 
 part-length : (xs : List ℕ) → Whole xs → (k : ℕ) → length (part (cut sizes xs) k) ≡ size sizes k
 part-length xs h k = cut-length sizes k xs (omega (arith, h .long))
@@ -46,13 +47,6 @@ view-sized xs h =
     }
 
 -- ---- numbers in range
-
--- a number of a list of values, past its end 0
-abbrev pub Valued : List ℕ → Type 0
-Valued l = (i : ℕ) → at l i < valueBound
-
-word-below : (s : List ℕ) → Small s → (a : ℕ) → wordAt s a < valueBound
-word-below s b a = omega (arith, b a, b (a + 1), b (a + 2), b (a + 3))
 
 words-valued : (n : ℕ) (s : List ℕ) → Small s → Valued (words n s)
 words-valued n s b i =
@@ -111,48 +105,7 @@ view-bytes xs h =
 
 -- ---- equal states, equal bytes
 
--- eight bytes that make the same number are the same
-long-inj : (s t : List ℕ) → length s ≡ 8 → length t ≡ 8 → Small s → Small t → long s ≡ long t → s ≡ t
-long-inj s t l m p q e =
-    let lo : wordAt s 0 ≡ wordAt t 0 = omega (arith, word-below s p 0, word-below t q 0) in
-    let hi : wordAt s 4 ≡ wordAt t 4 = omega arith in
-    words-inj 2 s t l m p q (cc (two-words s, two-words t))
-
--- lists of one number each
-one-inj : (s t : List ℕ) → length s ≡ 1 → length t ≡ 1 → at s 0 ≡ at t 0 → s ≡ t
-one-inj [] t l m e = absurd (omega arith)
-one-inj (a ∷ b ∷ s) t l m e = absurd (omega arith)
-one-inj (a ∷ []) [] l m e = absurd (omega arith)
-one-inj (a ∷ []) (b ∷ c ∷ t) l m e = absurd (omega arith)
-one-inj (a ∷ []) (b ∷ []) l m e = ap (λ (x : ℕ). x ∷ []) e
-
 pub view-inj : (xs ys : List ℕ) → Whole xs → Whole ys → view xs ≡ view ys → xs ≡ ys
 unfolding view
 view-inj xs ys h k e =
-    let p : ℕ → List ℕ = part (cut sizes xs) in
-    let q : ℕ → List ℕ = part (cut sizes ys) in
-    let b : (j : ℕ) → Small (p j) = part-small xs h in
-    let d : (j : ℕ) → Small (q j) = part-small ys k in
-    let l : (j : ℕ) → length (p j) ≡ size sizes j = part-length xs h in
-    let m : (j : ℕ) → length (q j) ≡ size sizes j = part-length ys k in
-    let e0 : p 0 ≡ q 0 = ap (λ (s : State). s .shape .pages .owner) e in
-    let e1 : p 1 ≡ q 1 = ap (λ (s : State). s .shape .pages .kind) e in
-    let e2 : p 2 ≡ q 2 = ap (λ (s : State). s .shape .pages .cacheable) e in
-    let e3 : p 3 ≡ q 3 = ap (λ (s : State). s .shape .pages .entry) e in
-    let e4 : p 4 ≡ q 4 = ap (λ (s : State). s .shape .pages .physical) e in
-    let e5 : p 5 ≡ q 5 = long-inj (p 5) (q 5) (l 5) (m 5) (b 5) (d 5) (ap (λ (s : State). s .shape .pages .free) e) in
-    let e6 : p 6 ≡ q 6 = ap (λ (s : State). s .shape .guests .current) e in
-    let e7 : p 7 ≡ q 7 = ap (λ (s : State). s .shape .guests .call) e in
-    let e8 : p 8 ≡ q 8 = ap (λ (s : State). s .shape .guests .callA) e in
-    let e9 : p 9 ≡ q 9 = ap (λ (s : State). s .shape .guests .callB) e in
-    let e10 : p 10 ≡ q 10 = one-inj (p 10) (q 10) (l 10) (m 10) (ap (λ (s : State). s .shape .guests .active) e) in
-    let e11 : p 11 ≡ q 11 = one-inj (p 11) (q 11) (l 11) (m 11) (ap (λ (s : State). s .shape .guests .mode) e) in
-    let e12 : p 12 ≡ q 12 = ap (λ (s : State). s .shape .cache .lineAddress) e in
-    let e13 : p 13 ≡ q 13 = ap (λ (s : State). s .shape .cache .linePage) e in
-    let e14 : p 14 ≡ q 14 = ap (λ (s : State). s .shape .cache .history) e in
-    let e15 : p 15 ≡ q 15 = ap (λ (s : State). s .shape .tlb .slotAddress) e in
-    let e16 : p 16 ≡ q 16 = ap (λ (s : State). s .shape .tlb .slotPage) e in
-    let e17 : p 17 ≡ q 17 = words-inj pages (p 17) (q 17) (l 17) (m 17) (b 17) (d 17) (ap (λ (s : State). s .values .memory) e) in
-    let e18 : p 18 ≡ q 18 = words-inj lines (p 18) (q 18) (l 18) (m 18) (b 18) (d 18) (ap (λ (s : State). s .values .line) e) in
-    cut-inj sizes xs ys (h .long) (k .long)
-    (λ i. e0 i ∷ e1 i ∷ e2 i ∷ e3 i ∷ e4 i ∷ e5 i ∷ e6 i ∷ e7 i ∷ e8 i ∷ e9 i ∷ e10 i ∷ e11 i ∷ e12 i ∷ e13 i ∷ e14 i ∷ e15 i ∷ e16 i ∷ e17 i ∷ e18 i ∷ [])
+    sym (fields-held xs (h .long) (h .small)) ∙ ap (λ (s : State). joined (stateFields s)) e ∙ fields-held ys (k .long) (k .small)

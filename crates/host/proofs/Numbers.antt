@@ -9,13 +9,16 @@ use lib.ListN.{length, getD, set, length-set}
 use lib.Seq.{set-out}
 use Rattle.laws.specs.Choice.{at}
 use Rattle.laws.proofs.Lists.{at-same}
+use Rattle.laws.proofs.Cut.{cut-get, cut-length}
 use Rattle.model.specs.Sizes.{pages, lines, byteBound}
 use Rattle.model.specs.State.{State}
 use Rattle.model.specs.Records.{wordAt}
 use Rattle.host.specs.declared.Field.{Field}
-use Rattle.host.specs.Cut.{cut, begin, size, part, edit, words, setWord}
-use Rattle.host.specs.View.{sizes, freeField, activeField, modeField, memoryField, lineField, bytes, stateOf, view, valued, long, worded, putMemory, putLine, putWord, singles, single, putActive, putMode, putSingle, putFree}
-use Rattle.host.proofs.Cut.{cut-set, cut-get, cut-set-word, cut-get-word, cut-length}
+use Rattle.laws.specs.Cut.{cut, begin, size, part, edit}
+use Rattle.host.specs.Words.{setWord}
+use Rattle.model.specs.Fields.{words, stateOf, long}
+use Rattle.host.specs.View.{sizes, freeField, activeField, modeField, memoryField, lineField, bytes, view, valued, worded, putMemory, putLine, putWord, singles, single, putActive, putMode, putSingle, putFree}
+use Rattle.host.proofs.Cut.{cut-set, cut-set-word, cut-get-word}
 use Rattle.host.proofs.Words.{length-words, words-set, words-get, words-out, two-words}
 use Rattle.host.proofs.View.{ends-below}
 use Rattle.host.proofs.Fields.{field}

@@ -10,9 +10,11 @@ use lib.ListN.{set}
 use borrow.Author.Tests.{le-ltb}
 use Rattle.laws.specs.Choice.{at}
 use Rattle.laws.proofs.Tests.{and⇔, lt⇔, true⇔}
-use Rattle.host.specs.Cut.{cut, begin, size, part, edit, total}
-use Rattle.host.specs.View.{sizes, bytes, stateOf, view, listed, columnsOf, column, withColumns, put}
-use Rattle.host.proofs.Cut.{cut-set, cut-get, cut-get-out, cut-set-out}
+use Rattle.laws.specs.Cut.{cut, begin, size, part, edit, total}
+use Rattle.model.specs.Fields.{stateOf}
+use Rattle.host.specs.View.{sizes, bytes, view, listed, columnsOf, column, withColumns, put}
+use Rattle.laws.proofs.Cut.{cut-get}
+use Rattle.host.proofs.Cut.{cut-set, cut-get-out, cut-set-out}
 
 -- ---- fields that are lists of bytes
 

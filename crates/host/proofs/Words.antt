@@ -2,13 +2,14 @@
 -- Assumes nothing.
 use mathlib.Core.Path.{_≡_, refl, sym, ap}
 use mathlib.Core.List.{List, [], _∷_}
-use Prim.Native.Nat.{ℕ, zero, suc, _+_, _-_, _*_, _/_, _%_, _≤_, _<_}
+use Prim.Native.Nat.{ℕ, zero, suc, _+_, _*_, _/_, _%_, _≤_, _<_}
 use native.Mathlib.Nat.{not-suc-le-zero, le-of-suc-le-suc, add-assoc}
 use native.Mathlib.Omega.{arith}
 use lib.ListN.{length, getD, drop, set, List·getD-eq-default}
 use lib.Seq.{getD-drop}
 use Rattle.model.specs.Records.{wordAt}
-use Rattle.host.specs.Cut.{words, setWord, Small}
+use Rattle.model.specs.Fields.{words}
+use Rattle.host.specs.Words.{setWord}
 
 pub length-words : (n : ℕ) (s : List ℕ) → length (words n s) ≡ n
 unfolding words
@@ -64,25 +65,3 @@ words-get (suc n) (suc i) s h =
 
 pub words-out : (n i : ℕ) (s : List ℕ) → n ≤ i → 0 ≡ getD (words n s) i 0
 words-out n i s h = sym (List·getD-eq-default (words n s) 0 (omega (arith, length-words n s)))
-
--- the bytes of equal words are equal
-pub word-inj : (a b c d a′ b′ c′ d′ : ℕ) → a < 256 → b < 256 → c < 256 → d < 256 → a′ < 256 → b′ < 256 → c′ < 256 → d′ < 256
-    → a + 256 * b + 65536 * c + 16777216 * d ≡ a′ + 256 * b′ + 65536 * c′ + 16777216 * d′ → (a ≡ a′) × (b ≡ b′) × (c ≡ c′) × (d ≡ d′)
-word-inj a b c d a′ b′ c′ d′ p q r s p′ q′ r′ s′ e = omega arith
-
-pub words-inj : (n : ℕ) (s t : List ℕ) → length s ≡ n * 4 → length t ≡ n * 4 → Small s → Small t → words n s ≡ words n t → s ≡ t
-words-inj zero [] [] l m p q e = refl
-words-inj zero [] (b ∷ t) l m p q e = absurd (omega arith)
-words-inj zero (a ∷ s) t l m p q e = absurd (omega arith)
-words-inj (suc n) [] t l m p q e = absurd (omega arith)
-words-inj (suc n) (a ∷ []) t l m p q e = absurd (omega arith)
-words-inj (suc n) (a ∷ b ∷ []) t l m p q e = absurd (omega arith)
-words-inj (suc n) (a ∷ b ∷ c ∷ []) t l m p q e = absurd (omega arith)
-words-inj (suc n) (a ∷ b ∷ c ∷ d ∷ s) [] l m p q e = absurd (omega arith)
-words-inj (suc n) (a ∷ b ∷ c ∷ d ∷ s) (a′ ∷ []) l m p q e = absurd (omega arith)
-words-inj (suc n) (a ∷ b ∷ c ∷ d ∷ s) (a′ ∷ b′ ∷ []) l m p q e = absurd (omega arith)
-words-inj (suc n) (a ∷ b ∷ c ∷ d ∷ s) (a′ ∷ b′ ∷ c′ ∷ []) l m p q e = absurd (omega arith)
-words-inj (suc n) (a ∷ b ∷ c ∷ d ∷ s) (a′ ∷ b′ ∷ c′ ∷ d′ ∷ t) l m p q e =
-    let w = word-inj a b c d a′ b′ c′ d′ (p 0) (p 1) (p 2) (p 3) (q 0) (q 1) (q 2) (q 3) (unfold words in ap (λ (x : List ℕ). getD x 0 0) e) in
-    let r : s ≡ t = words-inj n s t (omega arith) (omega arith) (λ i. p (suc (suc (suc (suc i))))) (λ i. q (suc (suc (suc (suc i))))) (unfold words in ap (drop 1) e) in
-    let w0 = w .0 in let w1 = w .1 in let w2 = w .2 in let w3 = w .3 in cc

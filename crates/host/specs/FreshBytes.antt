@@ -6,7 +6,7 @@ use Rattle.laws.specs.Choice.{pick}
 use Rattle.model.specs.Sizes.{firstFreePage, byteBound}
 use Rattle.model.specs.Names.{running}
 use Rattle.model.specs.Fresh.{freshOwner, freshKind, freshPhysical}
-use Rattle.host.specs.Cut.{begin}
+use Rattle.laws.specs.Cut.{begin}
 use Rattle.host.specs.View.{sizes, kindField, cacheableField, entryField, physicalField, currentField}
 
 abbrev pub mapField : ℕ

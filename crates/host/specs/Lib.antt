@@ -1,4 +1,4 @@
-pub mod Cut
+pub mod Words
 pub mod View
 pub mod FreshBytes
 pub mod Calls

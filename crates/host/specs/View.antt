@@ -3,76 +3,22 @@
 use mathlib.Core.Path.{_≡_}
 use mathlib.Core.Bool.{Bool, _&&_, not}
 use mathlib.Core.List.{List, [], _∷_}
-use Prim.Native.Nat.{ℕ, zero, suc, _+_, _*_, _^_}
+use Prim.Native.Nat.{ℕ, zero, suc}
 use lib.Dec.{eqb, ltb}
 use lib.ListN.{length, set}
 use Rattle.laws.specs.Choice.{at}
-use Rattle.model.specs.Sizes.{guests, physicals, pages, addresses, lines, sets, slots, byteBound}
 use Rattle.model.specs.State.{State}
-use Rattle.model.specs.Records.{wordAt}
 use Rattle.model.specs.Parts.{withPages, shaped, setActive, setMode}
-use Rattle.host.specs.Cut.{cut, part, edit, total, words, Small}
+use Rattle.laws.specs.Cut.{cut, part, edit, total}
+use Rattle.model.specs.Fields.{fieldSizes, stateOf, Small}
 
--- the sizes of the fields in bytes, in their order
+-- The sizes of the fields in bytes, in their order: today those of an image, and in its order.
 abbrev pub sizes : List ℕ
-sizes =
-    pages  -- 0 owner
-    ∷ pages  -- 1 kind
-    ∷ pages  -- 2 cacheable
-    ∷ pages * addresses  -- 3 entry
-    ∷ guests * physicals  -- 4 physical
-    ∷ 8  -- 5 free
-    ∷ guests  -- 6 current
-    ∷ guests  -- 7 call
-    ∷ guests  -- 8 callA
-    ∷ guests  -- 9 callB
-    ∷ 1  -- 10 active
-    ∷ 1  -- 11 mode
-    ∷ lines  -- 12 lineAddress
-    ∷ lines  -- 13 linePage
-    ∷ sets  -- 14 history
-    ∷ slots  -- 15 slotAddress
-    ∷ slots  -- 16 slotPage
-    ∷ pages * 4  -- 17 memory
-    ∷ lines * 4  -- 18 line
-    ∷ []
+sizes = fieldSizes
 
 -- the bytes of a state
 abbrev pub bytes : ℕ
 bytes = total sizes
-
--- eight bytes as a number, low byte first
-abbrev pub long : List ℕ → ℕ
-long s = wordAt s 0 + byteBound ^ 4 * wordAt s 4
-
-abbrev pub stateOf : List (List ℕ) → State
-stateOf ps =
-    record {
-      shape =
-          record {
-            pages =
-                record {
-                  owner = part ps 0;
-                  kind = part ps 1;
-                  cacheable = part ps 2;
-                  entry = part ps 3;
-                  physical = part ps 4;
-                  free = long (part ps 5);
-                };
-            guests =
-                record {
-                  current = part ps 6;
-                  call = part ps 7;
-                  callA = part ps 8;
-                  callB = part ps 9;
-                  active = at (part ps 10) 0;
-                  mode = at (part ps 11) 0;
-                };
-            cache = record { lineAddress = part ps 12; linePage = part ps 13; history = part ps 14 };
-            tlb = record { slotAddress = part ps 15; slotPage = part ps 16 };
-          };
-      values = record { memory = words pages (part ps 17); line = words lines (part ps 18) };
-    }
 
 unfoldable pub view : List ℕ → State
 view xs = stateOf (cut sizes xs)

@@ -108,7 +108,7 @@ ghost use Prim.Native.Nat.{_+_, _*_, _<_};
 ghost use lib.Dec.{eqb};
 ghost use Rattle.laws.specs.Choice.{at};
 ghost use Rattle.model.specs.Sizes.{addresses, physicals};
-ghost use Rattle.host.specs.Cut.{begin, size};
+ghost use Rattle.laws.specs.Cut.{begin, size};
 ghost use Rattle.host.specs.View.{sizes, view, listed, column, put, ownerField, kindField, cacheableField, entryField, physicalField, currentField};
 ghost use Rattle.numbers.specs.Lead.{leadOf, heldOf};
 

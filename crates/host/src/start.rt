@@ -23,7 +23,7 @@ ghost use Prim.Native.Nat.{_*_, _≤_, _<_};
 ghost use lib.ListN.{length};
 ghost use Rattle.model.specs.Sizes.{guests, physicals};
 ghost use Rattle.model.specs.Fresh.{freshOwner, freshKind, freshPhysical, fresh};
-ghost use Rattle.host.specs.Cut.{begin};
+ghost use Rattle.laws.specs.Cut.{begin};
 ghost use Rattle.host.specs.View.{sizes, bytes, view, physicalField};
 ghost use Rattle.host.specs.FreshBytes.{freshMap, laterByte, freshByte};
 

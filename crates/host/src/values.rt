@@ -20,7 +20,8 @@ ghost use Rattle.model.specs.Sizes.{pages};
 ghost use Rattle.model.specs.State.{isPage};
 ghost use Rattle.model.specs.Checks.{lowestFree};
 ghost use Rattle.model.specs.Records.{wordAt};
-ghost use Rattle.host.specs.Cut.{setWord, Small};
+ghost use Rattle.model.specs.Fields.{Small};
+ghost use Rattle.host.specs.Words.{setWord};
 ghost use Rattle.host.specs.View.{bytes, view, Whole, valued, worded, putWord, putMemory, putLine, singles, single, putSingle, putActive, putMode, putFree};
 ghost use Rattle.numbers.specs.Lead.{toward};
 

@@ -33,3 +33,4 @@ pub mod Keeps
 pub mod Samples
 pub mod Answers
 pub mod Resumes
+pub mod Images

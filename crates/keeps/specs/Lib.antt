@@ -1,3 +1,4 @@
 pub mod Allowed
 pub mod Numbers
 pub mod Resumes
+pub mod Images

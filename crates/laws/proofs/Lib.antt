@@ -7,3 +7,4 @@ pub mod Grid
 pub mod Bits
 pub mod Loops
 pub mod Answers
+pub mod Cut

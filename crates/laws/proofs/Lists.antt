@@ -91,3 +91,10 @@ module _ {ℓ} {A : Type ℓ} where
   listOf-same n {f} {g} d h =
       ext-getD d (listOf n f) (listOf n g) (length-listOf n f ∙ sym (length-listOf n g))
       (λ i k. let l : i < n = omega (arith, length-listOf n f) in getD-listOf n f d i l ∙ h i l ∙ sym (getD-listOf n g d i l))
+
+-- ---- a list filled from its start on
+
+-- one place more is stored
+pub filled-more : (f : ℕ → ℕ) (xs : List ℕ) (i v : ℕ) → i < length xs → v ≡ f i → ((j : ℕ) → j < i → at xs j ≡ f j)
+    → (j : ℕ) → j < i + 1 → at (set xs i v) j ≡ f j
+filled-more f xs i v h e before j k = at-set (λ x. x ≡ f j) xs i v j h (λ q. e ∙ ap f (sym q)) (λ n. before j (omega arith))

@@ -1,3 +1,4 @@
 pub mod Choice
 pub mod Search
 pub mod Bits
+pub mod Cut

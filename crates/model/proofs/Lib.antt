@@ -7,3 +7,6 @@ pub mod Run
 pub mod Journal
 pub mod Shape
 pub mod Bytes
+pub mod Fields
+pub mod Image
+pub mod Saving

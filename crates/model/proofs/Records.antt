@@ -40,7 +40,7 @@ fields-back : (f : Fields) → f .value < valueBound → fieldsIn (bytesOf f) �
 fields-back f h = ap (fields (f .kind) (f .a) (f .b) (f .call)) (word-back (f .value) h)
 
 -- four bytes are those of their number
-word-forth : (a b c d : ℕ) → a < byteBound → b < byteBound → c < byteBound → d < byteBound
+pub word-forth : (a b c d : ℕ) → a < byteBound → b < byteBound → c < byteBound → d < byteBound
     → wordBytes (a + byteBound * b + byteBound ^ 2 * c + byteBound ^ 3 * d) ≡ a ∷ b ∷ c ∷ d ∷ []
 word-forth a b c d ha hb hc hd =
     let v = a + byteBound * b + byteBound ^ 2 * c + byteBound ^ 3 * d in

@@ -28,3 +28,5 @@ pub mod Journal
 pub mod Samples
 pub mod Damage
 pub mod Damaged
+pub mod Fields
+pub mod Image

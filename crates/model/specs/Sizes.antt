@@ -1,7 +1,7 @@
 -- docs/HOST.md, "Sizes and state": each size by a name of its own. No other file spells one.
 -- Assumes nothing.
 use mathlib.Core.Bool.{Bool, _&&_, _||_, not}
-use Prim.Native.Nat.{ℕ, _+_, _*_, _%_, _^_}
+use Prim.Native.Nat.{ℕ, _+_, _*_, _/_, _%_, _^_}
 use lib.Dec.{leb, eqb}
 
 abbrev pub guests : ℕ
@@ -64,6 +64,13 @@ valueBound = 2 ^ 32
 abbrev pub byteBound : ℕ
 byteBound = 2 ^ 8
 
+-- bytes of a value, and of the map of free pages, a bit for each
+abbrev pub valueBytes : ℕ
+valueBytes = 4
+
+abbrev pub mapBytes : ℕ
+mapBytes = pages / 8
+
 -- kinds of records; calls, with the call 'none' counted
 abbrev pub kinds : ℕ
 kinds = 16
@@ -94,6 +101,13 @@ headerBytes = 8
 
 abbrev pub recordLimit : ℕ
 recordLimit = 4096
+
+-- bytes of an image's mark, and of all that stands before its fields: mark and version
+abbrev pub markBytes : ℕ
+markBytes = 3
+
+abbrev pub imageHeadBytes : ℕ
+imageHeadBytes = markBytes + 2
 
 -- address v belongs to set v mod 8 and to slot v mod 8
 abbrev pub setOf : ℕ → ℕ

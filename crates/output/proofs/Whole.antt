@@ -1,4 +1,4 @@
--- An output buffer as long as the program's holds all that is printed.
+-- Output buffers as long as the program's hold all that is printed.
 -- Assumes nothing.
 use mathlib.Core.Path.{_≡_, ap, subst, _∙_}
 use mathlib.Core.Bool.{not}
@@ -10,19 +10,19 @@ use lib.ListN.{length, drop, length-append}
 use Rattle.laws.proofs.Cases.{pick-both}
 use Rattle.model.specs.Sizes.{answerBytes, answerValueAt, recordLimit}
 use Rattle.model.specs.State.{State}
-use Rattle.model.specs.Fresh.{fresh}
+use Rattle.model.specs.Fields.{Small}
 use Rattle.model.specs.Valid.{valid?}
 use Rattle.model.specs.Run.{run}
 use Rattle.model.specs.Journal.{Report, recordsOf, numberAt, valueAt, pasted, reported, reportOf, hasHeader, wholeRecords, formRefusal, journalRefusal, After, journal}
+use Rattle.model.specs.Image.{ImageAnswer, done, notValid, notImage, loaded}
 use Rattle.model.proofs.Journal.{either, accepted-and-refused}
-use Rattle.host.specs.Cut.{Small}
 use Rattle.journal.proofs.Reports.{form-fits}
 use Rattle.print.specs.Text.{Page, page, typedAll, decimalOf}
 use Rattle.print.proofs.Typing.{typed-fits}
 use Rattle.print.proofs.Decimal.{length-decimal}
-use Rattle.output.specs.Output.{titleLine, refusedWord, doneWord, cutWord, numberThen, space, lineEnd, recordLine, recordLines, refusedLine, cutLine, doneLine, reportLines, printed}
+use Rattle.output.specs.Output.{titleLine, refusedWord, doneWord, cutWord, numberThen, space, lineEnd, recordLine, recordLines, refusedLine, cutLine, doneLine, reportLines, printed, loadLines}
 use Rattle.output.specs.declared.Printed.{Printed}
-use Rattle.output.specs.Promises.{Prints}
+use Rattle.output.specs.Promises.{Prints, PrintsLoad}
 use Rattle.output.proofs.Room.{form-passes}
 
 number-long : (n x k : ℕ) → n < 10 ^ suc k → length (numberThen n x) ≤ suc k + 1
@@ -83,15 +83,30 @@ module _ (s : State) (j b : List ℕ) where
       (λ n q c. omega (arith, refused-long (journalRefusal s j b) 1 refusal-small))
       (accepted-and-refused s j b)
 
+-- of an image at most a refusal's line, of two digits; as the program has it
+abbrev pub refusalBytes : ℕ
+refusalBytes = 11
+
+load-most : (a : ImageAnswer) → length (loadLines a) ≤ refusalBytes
+load-most done = omega arith
+load-most notValid = refused-long 1 1 (omega arith)
+load-most notImage = refused-long 16 1 (omega arith)
+
 -- what was typed, where the text has its room
-whole-text : (d xs : List ℕ) (n : ℕ) (e : List ℕ) → length xs ≤ outputBytes → outputBytes ≤ length d → page e n ≡ typedAll (page d 0) xs
+whole-text : (d xs : List ℕ) (n : ℕ) (e : List ℕ) → length xs ≤ length d → page e n ≡ typedAll (page d 0) xs
     → (n ≡ length xs) × (e ≡ xs ++ drop (length xs) d)
-whole-text d xs n e m h f =
-    let q = f ∙ typed-fits d xs (omega arith) in
+whole-text d xs n e h f =
+    let q = f ∙ typed-fits d xs h in
     (ap (λ (p : Page). p .place) q, ap (λ (p : Page). p .bytes) q)
 
 -- The output buffer starts with all that is printed, and its rest stays. That the answers are bytes is what their type says.
-pub printed-whole : (j b d : List ℕ) {p : Printed} {c e : List ℕ} → Prints j b d p c e → Small c → outputBytes ≤ length d
-    → (p .bytes ≡ length (printed (journal fresh j b))) × (e ≡ printed (journal fresh j b) ++ drop (length (printed (journal fresh j b))) d)
-printed-whole j b d {p} {c} {e} w s h =
-    whole-text d (printed (journal fresh j b)) (p .bytes) e (printed-most fresh j b (subst Small (w .answers) s)) h (w .output)
+pub printed-whole : (s : State) (j b d : List ℕ) {p : Printed} {t : State} {c e : List ℕ} → Prints s j b d p t c e → Small c → outputBytes ≤ length d
+    → (p .bytes ≡ length (printed (journal s j b))) × (e ≡ printed (journal s j b) ++ drop (length (printed (journal s j b))) d)
+printed-whole s j b d {p} {c = c} {e = e} w m h =
+    whole-text d (printed (journal s j b)) (p .bytes) e (omega (arith, printed-most s j b (subst Small (w .answers) m))) (w .output)
+
+pub load-whole : (s : State) (i d : List ℕ) {p : Printed} {t : State} {e : List ℕ} → PrintsLoad s i d p t e → refusalBytes ≤ length d
+    → (p .bytes ≡ length (loadLines (loaded s i .answer)))
+    × (e ≡ loadLines (loaded s i .answer) ++ drop (length (loadLines (loaded s i .answer))) d)
+load-whole s i d {p} {e = e} w h =
+    whole-text d (loadLines (loaded s i .answer)) (p .bytes) e (omega (arith, load-most (loaded s i .answer))) (w .output)

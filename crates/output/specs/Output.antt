@@ -4,6 +4,7 @@ use mathlib.Core.List.{List, [], _∷_, _++_}
 use Prim.Native.Nat.{ℕ, zero, suc, _+_}
 use lib.Dec.{eqb}
 use Rattle.laws.specs.Choice.{pick}
+use Rattle.model.specs.Image.{ImageAnswer, imageNumber}
 use Rattle.model.specs.Journal.{numberAt, valueAt, Report, Verdict, ran, turnedAway, After}
 use Rattle.print.specs.Text.{decimalOf}
 
@@ -67,7 +68,22 @@ linesOf (turnedAway n) b = refusedLine n
 abbrev pub printed : After → List ℕ
 printed a = linesOf (a .verdict) (a .buffer)
 
--- the status with which the program ends, as a digit in ASCII: 0 where the journal was run, 1 where it was refused
+-- what is printed of an image that was to be loaded
+abbrev pub loadLines : ImageAnswer → List ℕ
+loadLines a = pick (eqb (imageNumber a) 0) [] (refusedLine (imageNumber a))
+
+-- ---- the status with which the program ends, as a digit in ASCII
+
+-- journal and image were not refused
+abbrev pub ranStatus : ℕ
+ranStatus = 48
+
+abbrev pub refusedStatus : ℕ
+refusedStatus = 49
+
 abbrev pub statusOf : Verdict → ℕ
-statusOf (ran r) = 48
-statusOf (turnedAway n) = 49
+statusOf (ran r) = ranStatus
+statusOf (turnedAway n) = refusedStatus
+
+abbrev pub loadStatus : ImageAnswer → ℕ
+loadStatus a = pick (eqb (imageNumber a) 0) ranStatus refusedStatus

@@ -1,4 +1,4 @@
-// What the program prints: a journal run on the fresh machine, and its answers and its report as lines of text.
+// What the program prints: a journal run on a host, and its answers and its report as lines of text; an image loaded, and its refusal.
 use host::Host;
 use journal::Report;
 use journal::Verdict;
@@ -9,8 +9,9 @@ ghost use Rattle.model.specs.Sizes.{byteBound, answerBytes};
 ghost use Rattle.model.specs.Records.{wordAt};
 ghost use Rattle.print.specs.Text.{page, typedAll};
 ghost use Rattle.output.specs.Output.{numberThen, recordLine, recordLines, refusedLine, cutLine, doneLine, reportLines, linesOf, statusOf};
+ghost use Rattle.host.specs.View.{view};
 ghost use Rattle.journal.specs.Promises.{reportFrom, verdictFrom};
-ghost use Rattle.output.specs.Promises.{takenIn, Prints};
+ghost use Rattle.output.specs.Promises.{takenIn, Prints, PrintsLoad};
 
 // How many bytes were typed, and the status with which a program that prints them ends, as a digit.
 pub struct Printed {
@@ -18,7 +19,8 @@ pub struct Printed {
     pub status: u8,
 }
 
-const RAN: u8 = b'0';
+// nothing was refused
+pub const RAN: u8 = b'0';
 
 const TURNED_AWAY: u8 = b'1';
 
@@ -140,12 +142,29 @@ fn lines_of(out: &mut [u8], answers: &[u8], v: Verdict) -> Printed
     }
 }
 
-// The journal on the fresh machine, and what is printed of it.
-pub fn run(j: &[u8], answers: &mut [u8], out: &mut [u8]) -> Printed
-    ensures { λ p. ⌜ Prints (now (j .entry)) (now (answers .entry)) (now (out .entry)) p (now (answers .exit)) (now (out .exit)) ⌝ }
+// The journal on the host, and what is printed of it.
+pub fn run(h: &mut Host, j: &[u8], answers: &mut [u8], out: &mut [u8]) -> Printed
+    ensures { λ p. ⌜ Prints (view (now (h .entry))) (now (j .entry)) (now (answers .entry)) (now (out .entry)) p (view (now (h .exit))) (now (answers .exit)) (now (out .exit)) ⌝ }
 {
-    let mut h: Host = [0; host::SIZE];
-    host::fresh(&mut h);
-    let v = journal::run(&mut h, j, answers);
+    let v = journal::run(h, j, answers);
     lines_of(out, answers, v)
+}
+
+// The image, loaded on the host: nothing is printed but of a refusal its line.
+pub fn load(h: &mut Host, image: &[u8], out: &mut [u8]) -> Printed
+    ensures { λ p. ⌜ PrintsLoad (view (now (h .entry))) (now (image .entry)) (now (out .entry)) p (view (now (h .exit))) (now (out .exit)) ⌝ }
+{
+    let a = image::load(h, image);
+    let number = image::number(a);
+    if number == 0 {
+        return Printed {
+            bytes: 0,
+            status: RAN,
+        };
+    }
+    let bytes = refused_line(out, 0, number as u64);
+    Printed {
+        bytes,
+        status: TURNED_AWAY,
+    }
 }

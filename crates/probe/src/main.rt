@@ -8,7 +8,7 @@ const IN: i32 = 0;
 
 const OUT: i32 = 1;
 
-// A task's first bytes: its kind, a zero, how many bytes its journal or record has, how many its answer buffer has.
+// A task's first bytes: its kind, a zero, how many bytes its journal, record or image has, how many its buffer has.
 const HEAD: usize = 6;
 
 const FRESH: u8 = 0;
@@ -16,6 +16,12 @@ const FRESH: u8 = 0;
 const GIVEN: u8 = 1;
 
 const JUDGE: u8 = 2;
+
+const OPEN: u8 = 3;
+
+const LOAD: u8 = 4;
+
+const SAVE: u8 = 5;
 
 const MOST: usize = 65536;
 
@@ -167,6 +173,56 @@ fn judge(length: isize) {
     send_host(&h);
 }
 
+fn open_part(h: &mut Host, image: &[u8], length: isize) -> image::Answer {
+    let n = io::count(length, image);
+    image::open(h, &image[..n])
+}
+
+fn load_part(h: &mut Host, image: &[u8], length: isize) -> image::Answer {
+    let n = io::count(length, image);
+    image::load(h, &image[..n])
+}
+
+fn read_buffer(h: &mut Host, image: &Buffer, length: isize, loads: bool) -> image::Answer {
+    if loads {
+        load_part(h, image, length)
+    } else {
+        open_part(h, image, length)
+    }
+}
+
+fn save_part(h: &Host, out: &mut [u8], room: isize) -> image::Answer {
+    let n = io::count(room, out);
+    image::save(h, &mut out[..n])
+}
+
+fn save_buffer(h: &Host, out: &mut Buffer, room: isize) -> image::Answer {
+    save_part(h, out, room)
+}
+
+// A machine and an image; then the answer's number and the machine after it.
+fn read_image(loads: bool, length: isize) {
+    let mut h: Host = [0; SIZE];
+    let mut image: Buffer = [0; MOST];
+    receive_host(&mut h);
+    receive_buffer(&mut image, length);
+    let a = read_buffer(&mut h, &image, length, loads);
+    io::write_all(OUT, &[image::number(a)]);
+    send_host(&h);
+}
+
+// A machine and a buffer with what it holds; then the answer's number, buffer and machine.
+fn save_image(room: isize) {
+    let mut h: Host = [0; SIZE];
+    let mut out: Buffer = [0; MOST];
+    receive_host(&mut h);
+    receive_buffer(&mut out, room);
+    let a = save_buffer(&h, &mut out, room);
+    io::write_all(OUT, &[image::number(a)]);
+    send_buffer(&out, room);
+    send_host(&h);
+}
+
 // False at the end of the input.
 fn task() -> bool {
     let mut head = [0u8; HEAD];
@@ -180,6 +236,9 @@ fn task() -> bool {
         FRESH => run_journal(true, length, room),
         GIVEN => run_journal(false, length, room),
         JUDGE => judge(length),
+        OPEN => read_image(false, length),
+        LOAD => read_image(true, length),
+        SAVE => save_image(room),
         _ => return false,
     }
     true

@@ -1,4 +1,4 @@
--- At most one content of each lent buffer meets a promise.
+-- At most one number, and one content of each lent buffer, meets a promise.
 -- Assumes nothing.
 use mathlib.Core.Path.{_≡_, sym, _∙_}
 use mathlib.Core.List.{List}
@@ -6,7 +6,7 @@ use Prim.Native.Nat.{ℕ}
 use Rattle.model.specs.State.{State}
 use Rattle.host.specs.View.{view, Whole}
 use Rattle.host.proofs.Inverse.{view-inj}
-use Rattle.ration.specs.Promises.{StepsBytes, RunsBytes}
+use Rattle.ration.specs.Promises.{StepsBytes, RunsBytes, SavesBytes, LoadsBytes}
 
 pub one-step : (s : State) (l : List ℕ) {x y c d : List ℕ} → Whole x → Whole y → StepsBytes s l (view x) c → StepsBytes s l (view y) d
     → (x ≡ y) × (c ≡ d)
@@ -20,3 +20,10 @@ one-run s j b {x = x} {y = y} h k p q = (
   p .answers ∙ sym (q .answers),
   p .report ∙ sym (q .report),
 )
+
+pub one-save : (s : State) (b : List ℕ) {n m : ℕ} {c d : List ℕ} → SavesBytes s b n c → SavesBytes s b m d → (n ≡ m) × (c ≡ d)
+one-save s b p q = (p .number ∙ sym (q .number), p .buffer ∙ sym (q .buffer))
+
+pub one-load : (s : State) (i : List ℕ) {n m : ℕ} {x y : List ℕ} → Whole x → Whole y → LoadsBytes s i n (view x) → LoadsBytes s i m (view y)
+    → (n ≡ m) × (x ≡ y)
+one-load s i {x = x} {y = y} h k p q = (p .number ∙ sym (q .number), view-inj x y h k (p .state ∙ sym (q .state)))

@@ -6,6 +6,7 @@ use Prim.Native.Nat.{ℕ, _*_}
 use Rattle.model.specs.State.{State}
 use Rattle.model.specs.Records.{wordBytes}
 use Rattle.model.specs.Step.{step}
+use Rattle.model.specs.Image.{imageNumber, loaded, saved}
 use Rattle.model.specs.Journal.{Verdict, Report, verdictNumber, reportOf, answerBytesOf, journal}
 
 -- the bytes of a number of 32 bits, and of a report: the verdict's number, taken, accepted, refused, left over
@@ -32,3 +33,13 @@ pub record RunsBytes (s : State) (j b : List ℕ) (t : State) (c d : List ℕ) :
   pub state : t ≡ journal s j b .state
   pub answers : c ≡ journal s j b .buffer
   pub report : d ≡ reportBytesOf (journal s j b .verdict)
+
+-- the state s saved to the buffer b: the number n, and the buffer c
+pub record SavesBytes (s : State) (b : List ℕ) (n : ℕ) (c : List ℕ) : Type 0 where
+  pub number : n ≡ imageNumber (saved s b .answer)
+  pub buffer : c ≡ saved s b .buffer
+
+-- the image i loaded on state s: the number n, and state t
+pub record LoadsBytes (s : State) (i : List ℕ) (n : ℕ) (t : State) : Type 0 where
+  pub number : n ≡ imageNumber (loaded s i .answer)
+  pub state : t ≡ loaded s i .state

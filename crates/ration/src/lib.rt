@@ -11,8 +11,9 @@ ghost use Rattle.laws.specs.Bits.{marks};
 ghost use Rattle.model.specs.Sizes.{pages, answerBytes};
 ghost use Rattle.model.specs.Fresh.{fresh};
 ghost use Rattle.model.specs.Valid.{valid?};
+ghost use Rattle.model.specs.Image.{imageBytes};
 ghost use Rattle.host.specs.View.{bytes as stateBytes, view};
-ghost use Rattle.ration.specs.Promises.{reportSize, StepsBytes, RunsBytes};
+ghost use Rattle.ration.specs.Promises.{reportSize, StepsBytes, RunsBytes, LoadsBytes, SavesBytes};
 
 // The bytes of a state.
 #[no_mangle]
@@ -36,6 +37,14 @@ pub extern "C" fn ration_report_size() -> usize
     ensures { λ r. ⌜ r ≡ reportSize ⌝ }
 {
     REPORT
+}
+
+// The bytes of an image.
+#[no_mangle]
+pub extern "C" fn ration_image_size() -> usize
+    ensures { λ r. ⌜ r ≡ imageBytes ⌝ }
+{
+    image::SIZE
 }
 
 // The fresh machine, whatever the bytes were.
@@ -83,4 +92,22 @@ pub extern "C" fn ration_run(
 {
     let v = journal::run(h, journal, answers);
     put_report(report, v);
+}
+
+// The state, saved to the lent bytes as its image: 0, or the refusal's number.
+#[no_mangle]
+pub extern "C" fn ration_save(h: &Host, image: &mut [u8]) -> u8
+    ensures { λ n. ⌜ SavesBytes (view (now (h .entry))) (now (image .entry)) n (now (image .exit)) ⌝ }
+{
+    let saved = image::save(h, image);
+    image::number(saved)
+}
+
+// The state that the image holds, loaded whatever the state was: 0, or the refusal's number.
+#[no_mangle]
+pub extern "C" fn ration_load(h: &mut Host, image: &[u8]) -> u8
+    ensures { λ n. ⌜ LoadsBytes (view (now (h .entry))) (now (image .entry)) n (view (now (h .exit))) ⌝ }
+{
+    let loaded = image::load(h, image);
+    image::number(loaded)
 }

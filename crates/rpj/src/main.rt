@@ -1,13 +1,20 @@
-// The program: a journal from standard input on the fresh machine, its output to standard output. No contract says what is read or written, so this
-// file is to be read: it hands what it read to `output::run`, and writes the text and says the status that this answers. A Rattle program has no exit
-// status; it says that of docs/HOST.md, "Journal and program", on a descriptor of its own, which ./rpj reads.
+// The program: a journal from standard input, on the fresh machine or on the state of an image, its output to standard output, and the state after it
+// to another image. No contract says what is read or written, so this file and files.rt are to be read: they hand what they read to `output::load` and
+// `output::run`, and write the text and say the status that these answer. A Rattle program has no exit status; it says that of
+// docs/HOST.md, "Journal and program", on a descriptor of its own, which ./rpj reads.
+mod files; // files.rt: the images that ./rpj names, and reading
+
+use files::ABSENT;
+use files::FAILED;
+use files::IMAGE;
+use files::at_most;
+use files::read_all;
+use files::read_image;
+use files::save_image;
+use host::Host;
 use libc::STDERR_FILENO;
 use libc::STDIN_FILENO;
 use libc::STDOUT_FILENO;
-ghost use mathlib.Core.Path.{_≡_};
-ghost use Prim.Native.Nat.{min};
-ghost use lib.ListN.{length};
-ghost use Rattle.io.specs.Counts.{Counts};
 
 const STATUS_FILENO: i32 = 3;
 
@@ -19,56 +26,78 @@ const ANSWERS: usize = steps::ANSWER * journal::LIMIT;
 // The longest output: a line for each record, of at most 4, 3 and 10 digits, two spaces and its end; and 64 bytes for the others.
 const OUTPUT: usize = 20 * journal::LIMIT + 64;
 
-const FAILED: usize = usize::MAX;
+// The longest line of an image that is refused, `refused 16` and its end.
+const REFUSAL: usize = 11;
 
-// Reads until buf is full or the input ends, and answers how many bytes came, or FAILED where a read fails, which the kit's read_full does not tell.
-fn read_all(fd: i32, buf: &mut [u8]) -> usize {
-    let mut done: usize = 0;
-    while done < buf.len() {
-        let got = libc::read(fd, &mut buf[done..]);
-        if got < 0 {
-            return FAILED;
-        }
-        let more = io::count(got, &buf[done..]);
-        if more == 0 {
-            return done;
-        }
-        done += more;
-    }
-    done
-}
+const RAN: u8 = output::RAN;
 
-// n, but no more than there are bytes in buf.
-fn at_most(n: usize, buf: &[u8]) -> usize
-    ensures { λ r. ⌜ Counts r (now (buf .entry)) ⌝ }
-    ensures { λ r. ⌜ r ≡ min n (length (now (buf .entry))) ⌝ }
-{
-    if n < buf.len() { n } else { buf.len() }
-}
-
-fn say(status: u8) {
-    io::write_all(STATUS_FILENO, &[status]);
-}
-
-fn fail(why: &[u8]) {
+fn fail(why: &[u8]) -> u8 {
     io::write_all(STDERR_FILENO, why);
-    say(b'2');
+    b'2'
 }
 
-fn main() {
+// The text, and the status that goes with it.
+fn put(text: &[u8], status: u8) -> u8 {
+    if !io::write_all(STDOUT_FILENO, text) {
+        return fail(b"rpj: the output cannot be written\n");
+    }
+    status
+}
+
+fn load(h: &mut Host, image: &[u8], got: usize) -> u8 {
+    let n = at_most(got, image);
+    let mut out = [0u8; REFUSAL];
+    let p = output::load(h, &image[..n], &mut out);
+    put(&out[..p.bytes], p.status)
+}
+
+fn run(h: &mut Host, input: &[u8], got: usize) -> u8 {
+    let n = at_most(got, input);
+    let mut answers = [0u8; ANSWERS];
+    let mut out = [0u8; OUTPUT];
+    let p = output::run(h, &input[..n], &mut answers, &mut out);
+    put(&out[..p.bytes], p.status)
+}
+
+fn start(h: &mut Host, image: &[u8], from: usize) -> u8 {
+    if from == ABSENT {
+        host::fresh(h);
+        return RAN;
+    }
+    load(h, image, from)
+}
+
+fn save(h: &Host) -> u8 {
+    if !save_image(h) {
+        return fail(b"rpj: the image cannot be written\n");
+    }
+    RAN
+}
+
+// All is read before anything is printed, and an image is saved once all is printed.
+fn whole() -> u8 {
+    let mut image = [0u8; IMAGE];
+    let from = read_image(&mut image);
+    if from == FAILED {
+        return fail(b"rpj: the image cannot be read\n");
+    }
     let mut input = [0u8; INPUT];
     let got = read_all(STDIN_FILENO, &mut input);
     if got == FAILED {
-        fail(b"rpj: the input cannot be read\n");
-        return;
+        return fail(b"rpj: the input cannot be read\n");
     }
-    let n = at_most(got, &input);
-    let mut answers = [0u8; ANSWERS];
-    let mut out = [0u8; OUTPUT];
-    let p = output::run(&input[..n], &mut answers, &mut out);
-    if !io::write_all(STDOUT_FILENO, &out[..p.bytes]) {
-        fail(b"rpj: the output cannot be written\n");
-        return;
+    let mut h: Host = [0; host::SIZE];
+    let started = start(&mut h, &image, from);
+    if started != RAN {
+        return started;
     }
-    say(p.status);
+    let ran = run(&mut h, &input, got);
+    if ran != RAN {
+        return ran;
+    }
+    save(&h)
+}
+
+fn main() {
+    io::write_all(STATUS_FILENO, &[whole()]);
 }

@@ -4,10 +4,11 @@ use second::bytes::OFFSETS;
 use second::hex::to_hex;
 use second::STATE_BYTES;
 
-use crate::task::{Task, ANSWER, RULES, VERDICT};
+use crate::hosts::{Files, Left};
+use crate::task::{Task, ANSWER, NUMBER, RULES, VERDICT};
 
 /// The fields of docs/STATE.md, in order.
-const FIELDS: [&str; 19] = [
+pub const FIELDS: [&str; 19] = [
     "owner",
     "kind",
     "cacheable",
@@ -29,6 +30,11 @@ const FIELDS: [&str; 19] = [
     "line",
 ];
 
+/// The number of the field that has this byte of a state.
+pub fn field(at: usize) -> usize {
+    OFFSETS.iter().rposition(|start| *start <= at).unwrap_or(0)
+}
+
 /// None where both are the same.
 pub fn of_results(task: &Task, ours: &[u8], second: &[u8]) -> Option<String> {
     if ours == second {
@@ -42,6 +48,14 @@ pub fn of_results(task: &Task, ours: &[u8], second: &[u8]) -> Option<String> {
         Task::Judge { machine, record } => {
             let start = of_judgements(ours, second);
             format!("{start}\n  record {}\n  machine {}", to_hex(record), to_hex(machine))
+        }
+        Task::Open { machine, image } | Task::Load { machine, image } => {
+            let start = of_images(ours, second);
+            format!("{start}\n  image {}\n  machine {}", to_hex(image), to_hex(machine))
+        }
+        Task::Save { machine, buffer } => {
+            let start = of_images(ours, second);
+            format!("{start}\n  {} bytes of buffer\n  machine {}", buffer.len(), to_hex(machine))
         }
     })
 }
@@ -103,11 +117,23 @@ fn of_judgements(ours: &[u8], second: &[u8]) -> String {
     of_states(&ours[head..], &second[head..])
 }
 
+/// Number, then the buffer where there is one, then the machine.
+fn of_images(ours: &[u8], second: &[u8]) -> String {
+    if ours[..NUMBER] != second[..NUMBER] {
+        return both("number", ours[0], second[0]);
+    }
+    let end = ours.len() - STATE_BYTES;
+    match (NUMBER..end).find(|at| ours[*at] != second[*at]) {
+        Some(at) => both(&format!("byte {} of the buffer", at - NUMBER), ours[at], second[at]),
+        None => of_states(&ours[end..], &second[end..]),
+    }
+}
+
 fn of_states(ours: &[u8], second: &[u8]) -> String {
     let Some(at) = (0..STATE_BYTES).find(|i| ours[*i] != second[*i]) else {
         return "none".into();
     };
-    let field = OFFSETS.iter().rposition(|start| *start <= at).unwrap_or(0);
+    let field = field(at);
     let what = format!("state, byte {at}: {} at {}", FIELDS[field], at - OFFSETS[field]);
     both(&what, ours[at], second[at])
 }
@@ -124,4 +150,30 @@ pub fn of_texts(ours: &[u8], second: &[u8]) -> Option<String> {
     let same = ours.iter().zip(&second).take_while(|(a, b)| a == b).count();
     let shown = |lines: &[String]| lines.get(same).map_or("(no line)".into(), |l| format!("{l:?}"));
     Some(both(&format!("line {}", same + 1), shown(&ours), shown(&second)))
+}
+
+/// The text first, then the status, then the files.
+pub fn of_left(ours: &Left, second: &Left) -> Option<String> {
+    if ours == second {
+        return None;
+    }
+    let status = |left: &Left| String::from_utf8_lossy(&left.status).into_owned();
+    let text = of_texts(&ours.text, &second.text);
+    Some(text.unwrap_or_else(|| match ours.status == second.status {
+        true => of_files(&ours.files, &second.files),
+        false => both("status", status(ours), status(second)),
+    }))
+}
+
+fn of_files(ours: &Files, second: &Files) -> String {
+    let names = |files: &Files| files.keys().cloned().collect::<Vec<_>>().join(", ");
+    let other = ours.iter().zip(second).find(|(ours, second)| ours != second);
+    match other {
+        Some(((name, a), (other, b))) if name == other => {
+            let at = a.iter().zip(b).take_while(|(a, b)| a == b).count();
+            let shown = |bytes: &[u8]| format!("{:?} of {} bytes", bytes.get(at), bytes.len());
+            both(&format!("file {name}, byte {at}"), shown(a), shown(b))
+        }
+        _ => both("files", names(ours), names(second)),
+    }
 }

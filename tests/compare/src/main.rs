@@ -6,13 +6,18 @@ mod crowd;
 mod declined;
 mod difference;
 mod events;
+mod hosts;
+mod image_tally;
+mod images;
 mod journals;
 mod missed;
+mod noted;
 mod plan;
 mod programs;
 mod self_test;
 mod tally;
 mod task;
+mod trips;
 
 use std::io::Write;
 use std::path::Path;
@@ -80,21 +85,22 @@ fn everything(probe: Program, rpj: Option<Program>) -> Result<(), String> {
     let start = Instant::now();
     let mut tally = Tally::default();
     let journals = journals::all();
-    let printed = match rpj {
-        Some(rpj) => print_all(rpj, journals.iter().chain(&journals::longer()))?,
-        None => 0,
-    };
-    let parts = [
-        plan::runs(&journals),
-        plan::rooms(),
-        plan::given(120),
-        plan::walks(&journals, &WALKED),
-        plan::damaged(40, 250),
-        plan::struck(20, 250),
+    let (printed, hosts) = rpj.map_or(Ok((0, 0)), |rpj| by_rpj(rpj, &journals))?;
+    // one after the other, since all of them at once are many bytes
+    let parts: [&dyn Fn() -> Vec<Item>; 8] = [
+        &|| plan::runs(&journals),
+        &plan::rooms,
+        &|| plan::given(120),
+        &|| plan::walks(&journals, &WALKED),
+        &|| plan::damaged(40, 250),
+        &|| plan::struck(20, 250),
+        &|| images::whole(&journals),
+        &images::changed,
     ];
-    for items in &parts {
-        same(probe, items, &mut tally, None)?;
+    for items in parts {
+        same(probe, &items(), &mut tally, None)?;
     }
+    let trips = trips::all(probe)?;
     let mut events = Events::default();
     events.watch(&journals);
     tally.print();
@@ -104,14 +110,22 @@ fn everything(probe: Program, rpj: Option<Program>) -> Result<(), String> {
     if !missing.is_empty() {
         return Err(missing.join("\n"));
     }
-    let Tally { journals, records, states, valid, .. } = tally;
+    let Tally { journals, records, states, valid, images, .. } = tally;
     println!(
         "no difference: {journals} journals with {records} records, {states} states ({} not \
-         valid), {printed} outputs of rpj, {} s",
+         valid), {} images opened, loaded or saved, {trips} runs with a save and a load between, \
+         {printed} outputs of rpj, {hosts} runs of it with images, {} s",
         states - valid,
+        images.tasks,
         start.elapsed().as_secs()
     );
     Ok(())
+}
+
+/// How many journals it printed, and how many it ran from images or to images.
+fn by_rpj(rpj: Program, journals: &[Journal]) -> Result<(usize, usize), String> {
+    let printed = print_all(rpj, journals.iter().chain(&journals::longer()))?;
+    Ok((printed, hosts::all(rpj)?))
 }
 
 fn too_few(tally: &Tally, printed: Option<usize>) -> Vec<String> {
@@ -119,6 +133,7 @@ fn too_few(tally: &Tally, printed: Option<usize>) -> Vec<String> {
         ("journals", tally.journals, 300),
         ("records", tally.records, 300_000),
         ("states", tally.states - tally.valid, 5_000),
+        ("images", tally.images.tasks, 20_000),
         ("journals printed", printed.unwrap_or(100), 100),
     ];
     let short = least.iter().filter(|(_, count, least)| count < least);

@@ -3,6 +3,7 @@
 use second::{fresh, step, HEADER};
 
 use crate::events::Events;
+use crate::hosts::HostTally;
 use crate::tally::Tally;
 use crate::task::Task;
 
@@ -50,10 +51,18 @@ pub fn each() -> Result<usize, String> {
             return Err(format!("event {left_out} was left out, and not missed"));
         }
     }
+    let hosts = HostTally::full().needed().len();
+    for left_out in 0..hosts {
+        let mut tally = HostTally::full();
+        *tally.needed()[left_out] = 0;
+        if tally.missing().len() != 1 {
+            return Err(format!("a run of rpj, {left_out}, was left out, and not missed"));
+        }
+    }
     for form in [whole, continued, judged] {
         drops(form)?;
     }
-    Ok(counts + events + 3 * DROPS.len())
+    Ok(counts + events + hosts + 3 * DROPS.len())
 }
 
 /// Everything else met, and the runs in one form of a task: all of them, then all but one.

@@ -1,10 +1,12 @@
 //! The proved programs, run as processes.
 
-use std::io::{BufReader, BufWriter, Read, Write};
-use std::path::Path;
-use std::process::{Command, Stdio};
+use std::fs::DirEntry;
+use std::io::{self, BufReader, BufWriter, Read, Write};
+use std::path::{Path, PathBuf};
+use std::process::{Child, Command, Stdio};
 use std::time::Duration;
 
+use crate::hosts::{Files, Host, Left};
 use crate::task::Item;
 
 /// Before each piece of input, so that a read can come back with less than it asked for.
@@ -65,7 +67,32 @@ fn at_end(mut output: impl Read) -> Result<(), String> {
 
 /// What `rpj` prints for a journal, which comes in pieces of so many bytes.
 pub fn rpj(program: Program, journal: &[u8], piece: usize) -> Result<Vec<u8>, String> {
-    let mut child = started(program)?;
+    printed(started(program)?, journal, piece)
+}
+
+/// What `rpj` leaves of a run from an image or to one.
+pub fn host(program: Program, host: &Host) -> Result<Left, String> {
+    let room = Room::new(&host.files).map_err(|e| e.to_string())?;
+    let named = |word: &str| match word {
+        "" => PathBuf::new(),
+        name => room.images().join(name),
+    };
+    // sh alone can give a program its descriptor 3
+    let child = Command::new("sh")
+        .args(["-c", "exec \"$@\" 3>\"$0\""])
+        .args([&room.status(), program.start, program.path])
+        .args(host.words().map(named))
+        .stdin(Stdio::piped())
+        .stdout(Stdio::piped())
+        .spawn();
+    let child = child.map_err(|e| format!("sh: {e}"))?;
+    let text = printed(child, &host.journal, host.journal.len().max(1))?;
+    let status = std::fs::read(room.status()).map_err(|e| e.to_string())?;
+    Ok(Left { text, status, files: room.files().map_err(|e| e.to_string())? })
+}
+
+/// What a program prints for a journal, which comes in pieces of so many bytes.
+fn printed(mut child: Child, journal: &[u8], piece: usize) -> Result<Vec<u8>, String> {
     let mut input = child.stdin.take().ok_or("no standard input")?;
     let mut output = child.stdout.take().ok_or("no standard output")?;
     let mut text = Vec::new();
@@ -87,11 +114,48 @@ pub fn rpj(program: Program, journal: &[u8], piece: usize) -> Result<Vec<u8>, St
     }
 }
 
-fn started(program: Program) -> Result<std::process::Child, String> {
+fn started(program: Program) -> Result<Child, String> {
     Command::new(program.start)
         .arg(program.path)
         .stdin(Stdio::piped())
         .stdout(Stdio::piped())
         .spawn()
         .map_err(|e| format!("{}: {e}", program.start.display()))
+}
+
+/// A folder with images, and a file for the status beside it; gone at the end.
+struct Room(PathBuf);
+
+impl Room {
+    fn new(files: &Files) -> io::Result<Room> {
+        let room = Room(std::env::temp_dir().join(format!("compare-{}", std::process::id())));
+        std::fs::create_dir_all(room.images())?;
+        for (name, bytes) in files {
+            std::fs::write(room.images().join(name), bytes)?;
+        }
+        Ok(room)
+    }
+
+    fn images(&self) -> PathBuf {
+        self.0.join("images")
+    }
+
+    fn status(&self) -> PathBuf {
+        self.0.join("status")
+    }
+
+    fn files(&self) -> io::Result<Files> {
+        let read = |entry: io::Result<DirEntry>| {
+            let entry = entry?;
+            let name = entry.file_name().to_string_lossy().into_owned();
+            Ok((name, std::fs::read(entry.path())?))
+        };
+        std::fs::read_dir(self.images())?.map(read).collect()
+    }
+}
+
+impl Drop for Room {
+    fn drop(&mut self) {
+        let _ = std::fs::remove_dir_all(&self.0);
+    }
 }

@@ -1,10 +1,12 @@
 //! The comparison itself: results with one byte changed must be seen.
 
+use crate::hosts::{self, Left};
+use crate::images;
 use crate::journals::{self, Journal};
 use crate::programs::Program;
 use crate::tally::Tally;
 use crate::task::Item;
-use crate::{difference, missed, plan, programs, same, Spot};
+use crate::{difference, missed, noted, plan, programs, same, trips, Spot};
 
 /// A few tasks of each form.
 fn items() -> Vec<Item> {
@@ -13,6 +15,7 @@ fn items() -> Vec<Item> {
     let mut items = plan::runs(&journals);
     items.extend(plan::given(3));
     items.extend(plan::damaged(1, 3));
+    items.extend(images::few());
     items
 }
 
@@ -35,14 +38,16 @@ pub fn run(probe: Program, rpj: Option<Program>) -> Result<(), String> {
         }
         Ok(())
     })?;
+    seen += trip(probe)?;
     if let Some(rpj) = rpj {
-        seen += texts(rpj)?;
+        seen += texts(rpj)? + left(rpj)?;
     }
     if Tally::default().missing().is_empty() {
         return Err("a run that meets nothing passes".into());
     }
     println!("{seen} changed bytes, each of them seen");
     println!("{} counts left out, each of them missed", missed::each()?);
+    println!("{} tasks with images, each of them noted as what it is", noted::each()?);
     Ok(())
 }
 
@@ -69,6 +74,61 @@ fn texts(rpj: Program) -> Result<usize, String> {
         0 => Ok(others.len()),
         unseen => Err(format!("{unseen} changes of rpj's text were not seen")),
     }
+}
+
+/// Each byte of what counts on a trip changed.
+fn trip(probe: Program) -> Result<usize, String> {
+    let mut trip = trips::trips(probe, vec![(0, 333)])?.swap_remove(0);
+    if let Some(why) = trip.wrong() {
+        return Err(format!("a trip is wrong as it is: {why}"));
+    }
+    let mut at = 0;
+    while let Some(byte) = trip.byte(at) {
+        let before = std::mem::replace(byte, *byte ^ 1);
+        trip.wrong().ok_or_else(|| format!("byte {at} of a trip was changed, and not seen"))?;
+        trip.byte(at).into_iter().for_each(|byte| *byte = before);
+        at += 1;
+    }
+    Ok(at)
+}
+
+/// A byte of what a run with images leaves, by its number in one part of it.
+type Part = fn(&mut Left, usize) -> Option<&mut u8>;
+
+const PARTS: [Part; 3] = [
+    |left, at| left.text.get_mut(at),
+    |left, at| left.status.get_mut(at),
+    |left, at| left.files.values_mut().flatten().nth(at),
+];
+
+/// Each byte of what a run with images leaves changed; then a file more, and a file less.
+fn left(rpj: Program) -> Result<usize, String> {
+    let mut changed = 0;
+    for host in hosts::few() {
+        let (mut ours, second) = (programs::host(rpj, &host)?, host.expected());
+        if let Some(text) = difference::of_left(&ours, &second) {
+            return Err(format!("rpj with images differs as it is: {text}"));
+        }
+        let mut seen = |ours: &Left| {
+            changed += 1;
+            difference::of_left(ours, &second).map(|_| ()).ok_or("a change of rpj's was not seen")
+        };
+        for part in PARTS {
+            let mut at = 0;
+            while let Some(byte) = part(&mut ours, at) {
+                let before = std::mem::replace(byte, *byte ^ 1);
+                seen(&ours)?;
+                part(&mut ours, at).into_iter().for_each(|byte| *byte = before);
+                at += 1;
+            }
+        }
+        ours.files.insert("more".into(), Vec::new());
+        seen(&ours)?;
+        ours.files.retain(|name, _| host.files.contains_key(name));
+        ours.files.pop_last();
+        seen(&ours)?;
+    }
+    Ok(changed)
 }
 
 /// A whole run has no difference, and with one byte of one result changed it stops at that very byte;

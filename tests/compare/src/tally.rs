@@ -1,5 +1,6 @@
 //! What was met, counted from our results; the table of it, and what is missing in it.
 
+use crate::image_tally::ImageTally;
 use crate::task::{Task, RULES, VERDICT};
 
 /// Each kind with the numbers that the tables of docs/HOST.md let it get, but for 1.
@@ -22,7 +23,9 @@ pub const KINDS: [(&str, &[usize]); 16] = [
     ("drop", &[0, 2, 3, 4]),
 ];
 
-const NUMBERS: usize = 16;
+const NUMBERS: usize = 17;
+/// The one number that neither a record nor a journal gets.
+const NO_IMAGE: usize = 16;
 
 const SWITCH: u8 = 8;
 const DROP: u8 = 15;
@@ -50,6 +53,7 @@ pub struct Tally {
     verdicts: [usize; NUMBERS],
     broken: [usize; 10],
     alone: [usize; 10],
+    pub images: ImageTally,
     pub valid: usize,
     pub journals: usize,
     pub records: usize,
@@ -81,7 +85,8 @@ impl Tally {
         let verdicts = self.verdicts.iter_mut().enumerate();
         needed.extend(verdicts.filter(|(n, _)| OF_NO_KIND.contains(n)));
         needed.extend(self.alone.iter_mut().enumerate());
-        needed.into_iter().map(|(_, count)| count).collect()
+        let needed = needed.into_iter().map(|(_, count)| count);
+        needed.chain(self.images.needed()).collect()
     }
 
     pub fn note(&mut self, task: &Task, ours: &[u8]) {
@@ -91,6 +96,9 @@ impl Tally {
                 self.note_run(active, journal, ours);
             }
             Task::Judge { machine, record } => self.note_judgement(machine[ACTIVE], record, ours),
+            Task::Open { .. } | Task::Load { .. } | Task::Save { .. } => {
+                self.images.note(task, ours[0]);
+            }
         }
     }
 
@@ -148,15 +156,16 @@ impl Tally {
             let counts = OF_NAMED.map(|number| format!("{number}: {}", row[number]));
             println!("drop of {named:<16} {}", counts.join("  "));
         }
-        let numbers: Vec<usize> = (0..NUMBERS).collect();
+        let numbers: Vec<usize> = (0..NO_IMAGE).collect();
         println!("{:<12}{}", "", cells(&numbers));
-        println!("{:<12}{}", "journals", cells(&self.verdicts));
+        println!("{:<12}{}", "journals", cells(&self.verdicts[..NO_IMAGE]));
         let given: Vec<usize> = numbers.iter().map(|number| self.given(*number)).collect();
         println!("{:<12}{}", "given", cells(&given));
         let rules: Vec<usize> = (1..=10).collect();
         println!("{:<12}{}", "rules", cells(&rules));
         println!("{:<12}{}", "broken", cells(&self.broken));
         println!("{:<12}{}", "alone", cells(&self.alone));
+        self.images.print();
     }
 
     /// What never happened, and what can't have.
@@ -176,10 +185,14 @@ impl Tally {
             let never = OF_NAMED.iter().filter(|number| row[**number] == 0);
             missing.extend(never.map(|number| format!("drop of {named} never got {number}")));
         }
-        let never = (0..NUMBERS).filter(|number| self.given(*number) == 0);
+        let never = (0..NO_IMAGE).filter(|number| self.given(*number) == 0);
         missing.extend(never.map(|number| format!("number {number} was never given")));
+        if self.verdicts[NO_IMAGE] > 0 {
+            missing.push(format!("a journal got {NO_IMAGE}"));
+        }
         let never = (0..10).filter(|rule| self.alone[*rule] == 0);
         missing.extend(never.map(|rule| format!("rule {} was never broken alone", rule + 1)));
+        missing.extend(self.images.missing());
         missing
     }
 }

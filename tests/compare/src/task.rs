@@ -1,5 +1,6 @@
 //! Tasks of the program `probe`: their bytes, and what the second program makes of them in the same bytes.
 
+use second::image::{load, open, save};
 use second::{fresh, rules, run_journal, step, State, STATE_BYTES};
 
 pub enum Task {
@@ -7,6 +8,12 @@ pub enum Task {
     Run { machine: Option<Vec<u8>>, journal: Vec<u8>, buffer: Vec<u8> },
     /// The rules on a machine, and one step.
     Judge { machine: Vec<u8>, record: Vec<u8> },
+    /// An image over a machine, whatever it holds.
+    Open { machine: Vec<u8>, image: Vec<u8> },
+    /// An image over a machine, judged.
+    Load { machine: Vec<u8>, image: Vec<u8> },
+    /// A machine into a buffer.
+    Save { machine: Vec<u8>, buffer: Vec<u8> },
 }
 
 /// A task, and what made it.
@@ -22,6 +29,8 @@ pub const VERDICT: usize = 9;
 pub const RULES: usize = 11;
 /// Number and value of a step.
 pub const ANSWER: usize = 5;
+/// The number alone, of what is done with an image.
+pub const NUMBER: usize = 1;
 
 impl Task {
     pub fn bytes(&self) -> Vec<u8> {
@@ -35,6 +44,9 @@ impl Task {
             Task::Judge { machine, record } => {
                 [&head(2, record, &[])[..], machine, record].concat()
             }
+            Task::Open { machine, image } => [&head(3, image, &[])[..], machine, image].concat(),
+            Task::Load { machine, image } => [&head(4, image, &[])[..], machine, image].concat(),
+            Task::Save { machine, buffer } => [&head(5, &[], buffer)[..], machine, buffer].concat(),
         }
     }
 
@@ -43,6 +55,8 @@ impl Task {
             + match self {
                 Task::Run { buffer, .. } => VERDICT + buffer.len(),
                 Task::Judge { .. } => RULES + ANSWER,
+                Task::Open { .. } | Task::Load { .. } => NUMBER,
+                Task::Save { buffer, .. } => NUMBER + buffer.len(),
             }
     }
 
@@ -51,6 +65,9 @@ impl Task {
         match self {
             Task::Run { machine, journal, buffer } => run(machine.as_deref(), journal, buffer),
             Task::Judge { machine, record } => judge(machine, record),
+            Task::Open { machine, image } => taken(open, machine, image),
+            Task::Load { machine, image } => taken(load, machine, image),
+            Task::Save { machine, buffer } => saved(machine, buffer),
         }
     }
 }
@@ -89,4 +106,21 @@ fn judge(machine: &[u8], record: &[u8]) -> Vec<u8> {
     out.extend(value.to_le_bytes());
     out.extend(state.to_bytes());
     out
+}
+
+fn number(outcome: Result<(), u8>) -> u8 {
+    outcome.err().unwrap_or(0)
+}
+
+fn taken(by: fn(&mut State, &[u8]) -> Result<(), u8>, machine: &[u8], image: &[u8]) -> Vec<u8> {
+    let mut state = State::from_bytes(machine);
+    let number = number(by(&mut state, image));
+    [vec![number], state.to_bytes()].concat()
+}
+
+fn saved(machine: &[u8], buffer: &[u8]) -> Vec<u8> {
+    let state = State::from_bytes(machine);
+    let mut buffer = buffer.to_vec();
+    let number = number(save(&state, &mut buffer));
+    [vec![number], buffer, state.to_bytes()].concat()
 }

@@ -1,9 +1,7 @@
-//! Journals: a header, then records; and the program's output.
-
-use std::fmt::Write;
+//! Journals: a header, then records.
 
 use crate::rules::valid;
-use crate::state::{fresh, State};
+use crate::state::State;
 use crate::step::step;
 
 /// The mark, version 1 as 16 bits low byte first, three zero bytes.
@@ -53,26 +51,4 @@ fn put_answer(answer: &mut [u8], number: u8, value: u32) {
 /// The bytes that answers to a journal take up, were it accepted.
 pub fn answer_bytes(journal: &[u8]) -> usize {
     journal.len().saturating_sub(HEADER.len()) / 8 * 8
-}
-
-/// What the program prints for its standard input.
-pub fn program_output(journal: &[u8]) -> String {
-    let mut answers = vec![0; answer_bytes(journal)];
-    match run_journal(&mut fresh(), journal, &mut answers) {
-        Ok(report) => listing(&report, &answers),
-        Err(number) => format!("refused {number}\n"),
-    }
-}
-
-fn listing(report: &Report, answers: &[u8]) -> String {
-    let mut out = String::from("RPJ 1\n");
-    for (i, answer) in answers.chunks_exact(8).enumerate() {
-        let value = u32::from_le_bytes(answer[4..].try_into().unwrap());
-        let _ = writeln!(out, "{} {} {}", i + 1, answer[0], value);
-    }
-    if report.left_over > 0 {
-        let _ = writeln!(out, "cut {}", report.left_over);
-    }
-    let _ = writeln!(out, "done {} refused {}", report.accepted, report.refused);
-    out
 }

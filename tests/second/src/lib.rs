@@ -1,7 +1,8 @@
 //! A second, independent implementation of the ration host.
 //!
 //! Written from the rules and their readings, as they stood before docs/HOST.md had them (docs/DECISIONS.md), and from docs/STATE.md and
-//! docs/RULES.md alone, for comparison with another implementation; drop from docs/HOST.md.
+//! docs/RULES.md alone, for comparison with another implementation; drop from docs/HOST.md, images
+//! from it and docs/IMAGE.md.
 
 pub mod bytes;
 pub mod cache;
@@ -10,8 +11,10 @@ pub mod checks;
 pub mod damage;
 pub mod gen;
 pub mod hex;
+pub mod image;
 pub mod journal;
 pub mod numbers;
+pub mod program;
 pub mod record;
 pub mod rng;
 pub mod rules;
@@ -19,8 +22,10 @@ pub mod state;
 pub mod step;
 
 pub use bytes::STATE_BYTES;
-pub use journal::{program_output, run_journal, Report, HEADER};
+pub use image::{image_of, IMAGE_BYTES, IMAGE_HEADER};
+pub use journal::{run_journal, Report, HEADER};
 pub use numbers::{GuestId, Mach, Phys, Place, Virt, STEALTH};
+pub use program::{program, program_output};
 pub use record::{decode, encode, Action, Call};
 pub use rules::{rules, valid};
 pub use state::{fresh, State};

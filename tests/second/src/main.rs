@@ -1,24 +1,26 @@
-//! `second run|state|rules|step|cases|gen SEED COUNT PROFILE|damage SEED COUNT`
+//! `second run [FROM TO]|state|rules|step|cases|gen SEED COUNT PROFILE|damage SEED COUNT`
 
+use std::fs;
 use std::io::{self, BufRead, Read, Write};
+use std::path::Path;
 use std::process::ExitCode;
 
 use second::hex::{from_hex, to_hex};
 use second::journal::answer_bytes;
-use second::{
-    cases, damage, fresh, gen, program_output, rules, run_journal, step, State, STATE_BYTES,
-};
+use second::{cases, damage, fresh, gen, program, rules, run_journal, step, State, STATE_BYTES};
 
-type Outcome = Result<(), String>;
+type Outcome = Result<ExitCode, String>;
 
-const USAGE: &str = "usage: second run | state | rules | step | cases \
+/// FROM and TO name images; an empty word names none.
+const USAGE: &str = "usage: second run [FROM TO] | state | rules | step | cases \
                      | gen SEED COUNT deep|near|noise | damage SEED COUNT";
 
 fn main() -> ExitCode {
     let words: Vec<String> = std::env::args().skip(1).collect();
     let words: Vec<&str> = words.iter().map(String::as_str).collect();
     let outcome = match words[..] {
-        ["run"] => run(),
+        ["run"] => run("", ""),
+        ["run", from, to] => run(from, to),
         ["state"] => state(),
         ["rules"] => each_line(rules_line),
         ["step"] => each_line(step_line),
@@ -28,7 +30,7 @@ fn main() -> ExitCode {
         _ => Err(USAGE.into()),
     };
     match outcome {
-        Ok(()) => ExitCode::SUCCESS,
+        Ok(status) => status,
         Err(text) => {
             eprintln!("{text}");
             ExitCode::from(2)
@@ -38,7 +40,8 @@ fn main() -> ExitCode {
 
 fn put(bytes: &[u8]) -> Outcome {
     let mut out = io::stdout().lock();
-    out.write_all(bytes).and_then(|()| out.flush()).map_err(|e| e.to_string())
+    out.write_all(bytes).and_then(|()| out.flush()).map_err(|e| e.to_string())?;
+    Ok(ExitCode::SUCCESS)
 }
 
 fn input() -> Result<Vec<u8>, String> {
@@ -47,8 +50,26 @@ fn input() -> Result<Vec<u8>, String> {
     Ok(bytes)
 }
 
-fn run() -> Outcome {
-    put(program_output(&input()?).as_bytes())
+fn run(from: &str, to: &str) -> Outcome {
+    let image =
+        if from.is_empty() { None } else { Some(fs::read(from).map_err(|e| e.to_string())?) };
+    let ended = program(image.as_deref(), &input()?);
+    put(ended.text.as_bytes())?;
+    if let Some(image) = ended.saved.filter(|_| !to.is_empty()) {
+        keep(&image, to).map_err(|e| e.to_string())?;
+    }
+    Ok(ExitCode::from(ended.status))
+}
+
+/// At every moment the old file or the new one is there whole.
+fn keep(image: &[u8], to: &str) -> io::Result<()> {
+    let new = format!("{to}.new");
+    let mut file = fs::File::create(&new)?;
+    file.write_all(image)?;
+    file.sync_all()?;
+    fs::rename(&new, to)?;
+    let folder = Path::new(to).parent().filter(|folder| !folder.as_os_str().is_empty());
+    fs::File::open(folder.unwrap_or(Path::new(".")))?.sync_all()
 }
 
 fn state() -> Outcome {
@@ -70,7 +91,8 @@ fn each_line(answer: fn(&str) -> Result<String, String>) -> Outcome {
             writeln!(out, "{text}").map_err(|e| e.to_string())?;
         }
     }
-    out.flush().map_err(|e| e.to_string())
+    out.flush().map_err(|e| e.to_string())?;
+    Ok(ExitCode::SUCCESS)
 }
 
 fn state_from_hex(text: &str) -> Result<State, String> {
@@ -120,5 +142,5 @@ fn damaged(seed: &str, count: &str) -> Outcome {
         let times = alone.iter().filter(|broken| **broken == rule).count();
         eprintln!("rule {} broken alone {times} times", rule + 1);
     }
-    Ok(())
+    Ok(ExitCode::SUCCESS)
 }

@@ -3,10 +3,11 @@
 mod support;
 
 use std::io::Write;
+use std::path::PathBuf;
 use std::process::{Command, Output, Stdio};
 
 use second::hex::to_hex;
-use second::{fresh, program_output};
+use second::{fresh, image_of, program_output};
 use support::{after_nine, journal, nine};
 
 fn second(words: &[&str], input: &[u8]) -> Output {
@@ -31,10 +32,54 @@ fn printed(words: &[&str], input: &[u8]) -> String {
 fn run_and_state() {
     let bytes = journal(&nine());
     assert_eq!(printed(&["run"], &bytes), program_output(&bytes));
-    assert_eq!(printed(&["run"], b"RPJ"), "refused 13\n");
+    let refused = second(&["run"], b"RPJ");
+    assert_eq!((&refused.stdout[..], refused.status.code()), (&b"refused 13\n"[..], Some(1)));
     let hex = |state: &second::State| to_hex(&state.to_bytes()) + "\n";
     assert_eq!(printed(&["state"], &bytes), hex(&after_nine().0));
     assert_eq!(printed(&["state"], &bytes[1..]), hex(&fresh()));
+}
+
+/// A folder for images, gone at the end.
+struct Room(PathBuf);
+
+impl Room {
+    fn new() -> Room {
+        let path = std::env::temp_dir().join(format!("second-{}", std::process::id()));
+        std::fs::create_dir_all(&path).unwrap();
+        Room(path)
+    }
+
+    fn file(&self, name: &str) -> String {
+        self.0.join(name).to_str().unwrap().into()
+    }
+}
+
+impl Drop for Room {
+    fn drop(&mut self) {
+        let _ = std::fs::remove_dir_all(&self.0);
+    }
+}
+
+#[test]
+fn run_from_an_image_and_to_one() {
+    let room = Room::new();
+    let [kept, other] = ["kept", "other"].map(|name| room.file(name));
+    let bytes = journal(&nine());
+    assert_eq!(printed(&["run", "", &kept], &bytes), program_output(&bytes));
+    let image = image_of(&after_nine().0);
+    assert!(std::fs::read(&kept).unwrap() == image);
+    let read = journal(&[[1, 0, 0, 0, 0, 0, 0, 0]]);
+    assert_eq!(printed(&["run", &kept, &kept], &read), "RPJ 1\n1 0 300\ndone 1 refused 0\n");
+    assert!(std::fs::read(&kept).unwrap() == image);
+    std::fs::write(&other, &image[1..]).unwrap();
+    let refused = second(&["run", &other, &kept], &bytes);
+    assert_eq!((&refused.stdout[..], refused.status.code()), (&b"refused 16\n"[..], Some(1)));
+    assert!(std::fs::read(&kept).unwrap() == image);
+    assert_eq!(second(&["run", &room.file("absent"), ""], &bytes).status.code(), Some(2));
+    let mut names: Vec<_> =
+        std::fs::read_dir(&room.0).unwrap().map(|f| f.unwrap().path()).collect();
+    names.sort();
+    assert_eq!(names, [PathBuf::from(kept), PathBuf::from(other)]);
 }
 
 #[test]

@@ -8,7 +8,8 @@ use lib.ListN.{length, length-set}
 use Rattle.laws.specs.Choice.{at}
 use Rattle.host.specs.View.{bytes}
 use Rattle.host.specs.FreshBytes.{freshByte}
-use Rattle.host.proofs.FreshBytes.{filled-fresh, one-more}
+use Rattle.laws.proofs.Lists.{filled-more}
+use Rattle.host.proofs.FreshBytes.{filled-fresh}
 use Rattle.host.proofs.start.fill.Statement.{statement}
 use Rattle.host.proofs.start.fill.Tie as tie
 
@@ -39,7 +40,7 @@ loop-again c =
     let r = c .fresh-byte in (
       omega arith,
       length-set (l .s) (l .i) (r .result) ∙ l .inv .1,
-      one-more (l .s) (l .i) (r .result) (omega arith) (r .ensures) (l .inv .2),
+      filled-more freshByte (l .s) (l .i) (r .result) (omega arith) (r .ensures) (l .inv .2),
     )
 
 same-length : tie.Need-same-length Inv-loop μ-loop

@@ -3,7 +3,7 @@
 use native.Mathlib.Omega.{arith}
 use borrow.Author.Needs.{needs}
 use borrow.Author.Tests.{lt-ltb, le-ltb}
-use Rattle.host.specs.Cut.{begin}
+use Rattle.laws.specs.Cut.{begin}
 use Rattle.host.specs.View.{sizes, kindField, cacheableField, entryField, physicalField}
 use Rattle.host.specs.FreshBytes.{freshByte}
 use Rattle.host.proofs.start.fresh_byte.Statement.{statement}

@@ -3,7 +3,7 @@
 use native.Mathlib.Omega.{arith}
 use borrow.Author.Needs.{needs}
 use borrow.Author.Tests.{lt-ltb, le-ltb, eq-eqb, ne-eqb}
-use Rattle.host.specs.Cut.{begin}
+use Rattle.laws.specs.Cut.{begin}
 use Rattle.host.specs.View.{sizes, currentField}
 use Rattle.host.specs.FreshBytes.{mapField, modeField}
 use Rattle.host.proofs.start.later_byte.Statement.{statement}

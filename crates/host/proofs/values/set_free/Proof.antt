@@ -4,7 +4,8 @@ use mathlib.Core.Path.{ap, _∙_}
 use mathlib.Core.List.{List}
 use Prim.Native.Nat.{ℕ, _+_, _/_, _^_}
 use Rattle.model.specs.Sizes.{byteBound}
-use Rattle.host.specs.Cut.{begin, setWord}
+use Rattle.laws.specs.Cut.{begin}
+use Rattle.host.specs.Words.{setWord}
 use Rattle.host.specs.View.{sizes, freeField, view}
 use Rattle.host.proofs.Numbers.{free-put}
 use borrow.Author.Needs.{needs}

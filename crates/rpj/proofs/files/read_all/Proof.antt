@@ -4,8 +4,8 @@ use mathlib.Core.Path.{_≡_}
 use Prim.Native.Nat.{_≤_, _-_}
 use lib.ListN.{length}
 use borrow.Author.Needs.{needs}
-use Rattle.rpj.proofs.read_all.Statement.{statement}
-use Rattle.rpj.proofs.read_all.Tie as tie
+use Rattle.rpj.proofs.files.read_all.Statement.{statement}
+use Rattle.rpj.proofs.files.read_all.Tie as tie
 
 abbrev Inv-loop : tie.InvT-loop
 Inv-loop fd buf₀ done₀ buf done = (done ≤ length buf) × (length buf ≡ length buf₀)
