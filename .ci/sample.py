@@ -18,7 +18,12 @@ one
 ```sh
 .ci/run  # the gate
 ```
+```sh
+tests/speed/run
+```
 """,
+    ".ci/run": "#!/bin/sh\n",
+    "tests/speed/run": "#!/bin/sh\n",
     "docs/GUARANTEE.md": """
 The same, `one-step` of crates/steps/proofs/Answers.antt, whole:
 

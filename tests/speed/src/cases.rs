@@ -1,0 +1,81 @@
+//! What is run: a start from the fresh machine, and a journal that is timed there.
+
+use ration::{journal, Action, Call, Guest, Host, Pa, PinKind};
+
+pub struct Case {
+    pub what: &'static str,
+    /// Makes the start.
+    pub before: Vec<u8>,
+    /// Leads back to the start, so that each run is as the one before it.
+    pub timed: Vec<u8>,
+}
+
+/// The records of a timed journal.
+pub const RECORDS: usize = 4096;
+
+/// The guest whose records are timed, after the others.
+const LAST: Guest = Guest(3);
+
+/// A guest's physical addresses but that of its first table.
+const PLACES: std::ops::Range<u8> = 1..16;
+
+/// The one at which the last guest's page is pinned and unpinned.
+const PLACE: Pa = Pa(15);
+
+pub fn all() -> Vec<Case> {
+    let free = Host::fresh().free_pages() as usize;
+    let case = |what, pages, timed: Vec<Action>| Case {
+        what,
+        before: journal(&taken(pages)),
+        timed: journal(&timed),
+    };
+    vec![
+        case("pin and unpin, the low pages free", 0, pins_and_unpins()),
+        case(
+            "pin and unpin, the low pages taken: the last alone is free",
+            free - 1,
+            pins_and_unpins(),
+        ),
+        case("pin, every page taken: refused with 11", free, refused_pins()),
+    ]
+}
+
+/// So many pages are taken, the lowest ones, guest after guest; then the last guest runs.
+fn taken(pages: usize) -> Vec<Action> {
+    let mut left = pages;
+    let mut actions = Vec::new();
+    for guest in 0..=LAST.0 {
+        actions.extend([Action::RetCtrl, Action::Switch(Guest(guest)), Action::Chmod]);
+        for pa in PLACES.take(left) {
+            actions.extend(pin(Pa(pa)));
+            left -= 1;
+        }
+    }
+    actions
+}
+
+fn pin(pa: Pa) -> [Action; 3] {
+    let kind = PinKind::Data;
+    [Action::Hcall(Call::Pin(pa, kind)), Action::Pin(pa, kind), Action::Chmod]
+}
+
+fn unpin(pa: Pa) -> [Action; 3] {
+    [Action::Hcall(Call::Unpin(pa)), Action::Unpin(pa), Action::Chmod]
+}
+
+/// As many as there is room for, then silent records.
+fn pins_and_unpins() -> Vec<Action> {
+    let turn = [pin(PLACE), unpin(PLACE)].concat();
+    let mut actions = turn.repeat(RECORDS / turn.len());
+    actions.resize(RECORDS, Action::Silent);
+    actions
+}
+
+/// One call that is tried again and again, and dropped at the end.
+fn refused_pins() -> Vec<Action> {
+    let [call, try_it, run_on] = pin(PLACE);
+    let mut actions = vec![call];
+    actions.resize(RECORDS - 2, try_it);
+    actions.extend([Action::Drop(LAST), run_on]);
+    actions
+}
