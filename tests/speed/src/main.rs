@@ -3,16 +3,14 @@
 
 use std::process::ExitCode;
 
-use ration::Host;
+use ration::{journal, Host, HEADER, RECORD};
 use speed::cases::{self, Case, RECORDS};
-use speed::clock::{side_by_side, times, Times, ROUNDS};
+use speed::clock::{side_by_side, Timed, Times, ROUNDS};
 use speed::machines;
 use speed::same::run_all;
 
 fn main() -> ExitCode {
-    println!("{RECORDS} records a run, {ROUNDS} runs of each machine, in turn");
-    println!("the median, and between which times the middle half of the runs lies");
-    match cases::all().iter().try_for_each(measure) {
+    match measure(&cases::all()) {
         Ok(()) => ExitCode::SUCCESS,
         Err(what) => {
             eprintln!("speed: {what}");
@@ -21,30 +19,54 @@ fn main() -> ExitCode {
     }
 }
 
-fn measure(case: &Case) -> Result<(), String> {
-    let mut machines = machines::fresh();
-    run_all(&mut machines, &case.before, case.before.len())?;
-    let start = machines[0].1.bytes();
-    run_all(&mut machines, &case.timed, case.timed.len())?;
-    let all = side_by_side(&mut machines, &case.timed);
-    run_all(&mut machines, &case.timed, case.timed.len())?;
-    if machines[0].1.bytes() != start {
-        return Err(format!("{}: a run does not lead back to its start", case.what));
+fn measure(cases: &[Case]) -> Result<(), String> {
+    let prepared: Result<Vec<_>, String> = cases.iter().map(prepare).collect();
+    let mut all: Vec<Timed> = prepared?.into_iter().flatten().collect();
+    let states: Vec<_> = all.iter().map(|timed| timed.machine.bytes()).collect();
+    let times = side_by_side(&mut all);
+    if all.iter().zip(states).any(|(timed, state)| timed.machine.bytes() != state) {
+        return Err("a run did not lead back to its start".into());
     }
-    println!("\n{}", case.what);
-    let [proved, engines @ ..] = &all[..] else { return Err("no machine".into()) };
-    tell(machines[0].0, proved);
-    let host = Host::from_bytes(start);
-    tell("  of it, testing validity", &times(|| assert!(host.valid())));
-    for ((name, _), found) in machines[1..].iter().zip(engines) {
-        tell(name, found);
+    println!("{RECORDS} records a run, {ROUNDS} runs of each, in turn");
+    println!("the median, what that is for a record, and where the middle half of the runs lies");
+    let mut heading = "";
+    for (timed, found) in all.iter().zip(&times) {
+        if timed.case != heading {
+            heading = timed.case;
+            println!("\n{heading}");
+        }
+        tell(timed, found);
     }
     Ok(())
 }
 
-fn tell(name: &str, found: &Times) {
+/// The case's journal on each machine, where they do the same; and on the proved one a journal without a record, which says what a run
+/// costs before its first one, nearly all of it the test of validity.
+fn prepare(case: &Case) -> Result<Vec<Timed>, String> {
+    let mut machines = machines::fresh();
+    for journal in [&case.before, &case.timed] {
+        run_all(&mut machines, journal, journal.len())
+            .map_err(|what| format!("{}: {what}", case.what))?;
+    }
+    let start = Box::new(Host::from_bytes(machines[0].1.bytes()));
+    let timed = |name, machine, journal: &[u8]| Timed {
+        case: case.what,
+        name,
+        machine,
+        journal: journal.to_vec(),
+    };
+    let runs = machines.into_iter().map(|(name, machine)| timed(name, machine, &case.timed));
+    let mut all: Vec<Timed> = runs.collect();
+    all.insert(1, timed("  without a record", start, &journal(&[])));
+    Ok(all)
+}
+
+fn tell(timed: &Timed, found: &Times) {
     let [low, median, high] =
         [found.low, found.median, found.high].map(|time| time.as_nanos() as f64 / 1000.0);
-    let each = median * 1000.0 / RECORDS as f64;
-    println!("{name:<26}{median:8.1} us a run{each:8.2} ns a record   {low:.1} to {high:.1} us");
+    let each = match (timed.journal.len() - HEADER) / RECORD {
+        0 => String::new(),
+        records => format!("{:.2} ns", median * 1000.0 / records as f64),
+    };
+    println!("{:<24}{median:8.1} us{each:>12}   {low:.1} to {high:.1} us", timed.name);
 }

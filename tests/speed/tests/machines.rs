@@ -7,7 +7,7 @@ use speed::engine::{Engine, Search, TrailingZeros};
 use speed::machines::{fresh, Machine, Named};
 use speed::same::run_all;
 
-/// What a byte of the state holds after the first two records, hcall and pin: physical 15 of guest 3, by docs/STATE.md.
+/// The byte of physical 15 of guest 3, by docs/STATE.md.
 const PINNED: usize = 4288 + 16 * 3 + 15;
 
 fn same(journal: &[u8], room: usize) -> Result<(), String> {
@@ -118,6 +118,7 @@ fn cases_are_what_they_are_called() {
         let refusals = answers.chunks_exact(ANSWER).filter(|answer| answer[0] == 11).count();
         assert_eq!(refusals as u32, report.refused, "{}", case.what);
         assert_eq!(host, start, "{}", case.what);
+        // hcall and pin alone
         host.run(&case.timed[..HEADER + 2 * RECORD], &mut answers).unwrap();
         assert_eq!(host.bytes()[PINNED], lead, "{}", case.what);
     }

@@ -1,5 +1,5 @@
-//! The whole rule book, docs/HOST.md, as an engine that nothing is proved of: how fast such a host can be. Its state is its own and
-//! valid from the fresh machine on, so it never tests validity, and what checks ask of all tables is kept up to date beside them.
+//! Journals by docs/HOST.md, every kind of record, on an engine that nothing is proved of: how fast such a host can be. Its state is its
+//! own and valid from the fresh machine on, so it never tests validity, and what checks ask of all tables is kept up to date beside them.
 
 mod cache;
 mod records;
@@ -66,7 +66,7 @@ impl<S: Search> Engine<S> {
     fn judge(&mut self, record: Record) -> Judged {
         let row = record.row().ok_or(2)?;
         refuse(!row.is_for(self.mode), 3)?;
-        if row.serves != 0 {
+        if row.serves != CALL_NONE {
             refuse(self.call[self.active] != record.call(row.serves), 4)?;
             self.serve(record)?;
             self.call[self.active] = 0;

@@ -19,13 +19,20 @@ pub const PIN: u8 = 13;
 pub const UNPIN: u8 = 14;
 pub const DROP: u8 = 15;
 
+pub const CALL_NONE: u8 = 0;
+const CALL_NEW: u8 = 1;
+const CALL_DEL: u8 = 2;
+const CALL_LSWITCH: u8 = 3;
+const CALL_PIN: u8 = 4;
+const CALL_UNPIN: u8 = 5;
+
 /// No mode: a kind that may be done in both.
 const ANY: u8 = 2;
 
 /// What a record of a kind may hold, and what it needs.
 pub struct Row {
     mode: u8,
-    /// The call that it serves, 0 for none.
+    /// The call that it serves.
     pub serves: u8,
     low_a: u8,
     /// How far a may be above its lowest.
@@ -46,26 +53,27 @@ const fn row(mode: u8, serves: u8, span_a: u8, high_b: u8) -> Row {
     Row { mode, serves, low_a: 0, span_a, high_b, unused: CALL_BYTE | VALUE }
 }
 
+/// By the kind.
 const ROWS: [Row; 16] = [
-    row(ANY, 0, 0, 0),
-    row(RUNNING, 0, VA, 0),
-    row(WAITING, 0, VA, 0),
-    Row { unused: CALL_BYTE, ..row(RUNNING, 0, VA, 0) },
-    Row { unused: CALL_BYTE, ..row(WAITING, 0, VA, 0) },
-    row(WAITING, 1, VA, PA),
-    Row { low_a: STEALTH, ..row(WAITING, 1, 0, PA) },
-    row(WAITING, 2, VA, 0),
-    row(WAITING, 0, GUEST, 0),
-    row(WAITING, 3, PA, 0),
-    Row { unused: VALUE, ..row(RUNNING, 0, VA, PA) },
-    row(RUNNING, 0, 0, 0),
-    row(WAITING, 0, 0, 0),
-    row(WAITING, 4, PA, PIN_KIND),
-    row(WAITING, 5, PA, 0),
-    row(WAITING, 0, GUEST, 0),
+    row(ANY, CALL_NONE, 0, 0),                                   // silent
+    row(RUNNING, CALL_NONE, VA, 0),                              // read
+    row(WAITING, CALL_NONE, VA, 0),                              // read_hyper
+    Row { unused: CALL_BYTE, ..row(RUNNING, CALL_NONE, VA, 0) }, // write
+    Row { unused: CALL_BYTE, ..row(WAITING, CALL_NONE, VA, 0) }, // write_hyper
+    row(WAITING, CALL_NEW, VA, PA),                              // new
+    Row { low_a: STEALTH, ..row(WAITING, CALL_NEW, 0, PA) },     // new_sm
+    row(WAITING, CALL_DEL, VA, 0),                               // del
+    row(WAITING, CALL_NONE, GUEST, 0),                           // switch
+    row(WAITING, CALL_LSWITCH, PA, 0),                           // lswitch
+    Row { unused: VALUE, ..row(RUNNING, CALL_NONE, VA, PA) },    // hcall
+    row(RUNNING, CALL_NONE, 0, 0),                               // ret_ctrl
+    row(WAITING, CALL_NONE, 0, 0),                               // chmod
+    row(WAITING, CALL_PIN, PA, PIN_KIND),                        // pin
+    row(WAITING, CALL_UNPIN, PA, 0),                             // unpin
+    row(WAITING, CALL_NONE, GUEST, 0),                           // drop
 ];
 
-/// The highest a and b of each call.
+/// The highest a and b of each call, by its number.
 const CALLS: [(u8, u8); 6] = [(0, 0), (VA, PA), (VA, 0), (PA, 0), (PA, PIN_KIND), (PA, 0)];
 
 /// A record's eight bytes, the first one lowest.

@@ -11,6 +11,7 @@ pub trait Search {
 pub struct BitByBit;
 
 impl Search for BitByBit {
+    #[inline(always)]
     fn lowest(free: u64) -> Option<usize> {
         (0..PAGES).find(|page| free >> page & 1 == 1)
     }
@@ -20,6 +21,7 @@ impl Search for BitByBit {
 pub struct TrailingZeros;
 
 impl Search for TrailingZeros {
+    #[inline(always)]
     fn lowest(free: u64) -> Option<usize> {
         (free != 0).then(|| free.trailing_zeros() as usize)
     }
