@@ -1,6 +1,10 @@
 //! What is run: a start from the fresh machine, and a journal that is timed there.
 
+use std::ops::Range;
+
 use ration::{journal, Action, Call, Guest, Host, Pa, PinKind};
+
+use crate::engine::sizes::{GUESTS, PHYSICALS, RECORD_LIMIT};
 
 pub struct Case {
     pub what: &'static str,
@@ -10,17 +14,17 @@ pub struct Case {
     pub timed: Vec<u8>,
 }
 
-/// The records of a timed journal.
-pub const RECORDS: usize = 4096;
+/// The records of a timed journal: as many as one may have.
+pub const RECORDS: usize = RECORD_LIMIT;
 
 /// The guest whose records are timed, after the others.
-const LAST: Guest = Guest(3);
+const LAST: Guest = Guest(GUESTS as u8 - 1);
 
 /// A guest's physical addresses but that of its first table.
-const PLACES: std::ops::Range<u8> = 1..16;
+const PLACES: Range<u8> = 1..PHYSICALS as u8;
 
 /// The one at which the last guest's page is pinned and unpinned.
-const PLACE: Pa = Pa(15);
+const PLACE: Pa = Pa(PLACES.end - 1);
 
 pub fn all() -> Vec<Case> {
     let free = Host::fresh().free_pages() as usize;

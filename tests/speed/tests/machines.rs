@@ -7,8 +7,8 @@ use speed::engine::{Engine, Search, TrailingZeros};
 use speed::machines::{fresh, Machine, Named};
 use speed::same::run_all;
 
-/// The byte of physical 15 of guest 3, by docs/STATE.md.
-const PINNED: usize = 4288 + 16 * 3 + 15;
+/// The byte of the last physical address of the last guest: docs/STATE.md, the end of field 4.
+const PINNED: usize = 4352 - 1;
 
 fn same(journal: &[u8], room: usize) -> Result<(), String> {
     run_all(&mut fresh(), journal, room)
@@ -103,7 +103,7 @@ fn what_differs_is_seen() {
 
 #[test]
 fn cases_are_what_they_are_called() {
-    // free pages at the start, records accepted, and the page that is pinned, plus one
+    // in numbers, as docs/HOST.md has them: free pages at the start, records accepted, and the page that is pinned, plus one
     let expected = [(56, 4096, 9), (1, 4096, 64), (0, 3, 0)];
     let cases = cases::all();
     assert_eq!(cases.len(), expected.len());

@@ -1,6 +1,7 @@
 //! Lines, TLB slots and entries: the parts of steps, and what is kept beside the state at each change of an entry.
 
-use super::state::{lead_to, page_at, Engine, Line, Slot, SETS, SLOTS, STEALTH};
+use super::sizes::{SETS, SLOTS, STEALTH, WAYS};
+use super::state::{lead_to, page_at, Engine, Line, Slot};
 
 /// The set of the stealth address; its line is in way 0.
 const STEALTH_SET: usize = STEALTH as usize % SETS;
@@ -106,7 +107,7 @@ impl<S> Engine<S> {
     /// The page is shared: its lines are taken out, and it is cached no more.
     pub(super) fn share(&mut self, page: usize) {
         for set in 0..SETS {
-            for way in 0..self.line[set].len() {
+            for way in 0..WAYS {
                 if self.line[set][way].page == lead_to(page) {
                     self.take_out(set, way);
                 }

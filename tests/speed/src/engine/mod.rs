@@ -4,17 +4,18 @@
 mod cache;
 mod records;
 mod search;
+pub mod sizes;
 mod state;
 
 use ration::{Refusal, Report, ANSWER, RECORD};
 use records::*;
+use sizes::*;
 use state::*;
 
 pub use search::{BitByBit, Search, TrailingZeros};
 pub use state::Engine;
 
 const HEADER: &[u8] = b"RPJ\x01\0\0\0\0";
-const RECORD_LIMIT: usize = 4096;
 
 /// The addresses at which nothing is mapped, a bit for each: the host's, and those of the stealth address's set but itself.
 const RESERVED: u64 = {

@@ -1,6 +1,7 @@
 //! docs/HOST.md, "Records and answers": kinds and calls as tables, and a record in range.
 
-use super::state::{Call, GUESTS, PHYSICALS, RUNNING, STEALTH, VIRTUALS, WAITING};
+use super::sizes::{CALLS, GUESTS, KINDS, PHYSICALS, STEALTH, VIRTUALS};
+use super::state::{Call, RUNNING, WAITING};
 
 pub const SILENT: u8 = 0;
 pub const READ: u8 = 1;
@@ -54,7 +55,7 @@ const fn row(mode: u8, serves: u8, span_a: u8, high_b: u8) -> Row {
 }
 
 /// By the kind.
-const ROWS: [Row; 16] = [
+const ROWS: [Row; KINDS] = [
     row(ANY, CALL_NONE, 0, 0),                                   // silent
     row(RUNNING, CALL_NONE, VA, 0),                              // read
     row(WAITING, CALL_NONE, VA, 0),                              // read_hyper
@@ -74,7 +75,7 @@ const ROWS: [Row; 16] = [
 ];
 
 /// The highest a and b of each call, by its number.
-const CALLS: [(u8, u8); 6] = [(0, 0), (VA, PA), (VA, 0), (PA, 0), (PA, PIN_KIND), (PA, 0)];
+const HIGHEST: [(u8, u8); CALLS] = [(0, 0), (VA, PA), (VA, 0), (PA, 0), (PA, PIN_KIND), (PA, 0)];
 
 /// A record's eight bytes, the first one lowest.
 #[derive(Clone, Copy)]
@@ -124,7 +125,7 @@ impl Record {
     }
 
     fn call_fits(self) -> bool {
-        let highest = CALLS.get(usize::from(self.call_byte()));
+        let highest = HIGHEST.get(usize::from(self.call_byte()));
         highest.is_some_and(|&(a, b)| self.a() <= a && self.b() <= b)
     }
 }

@@ -1,6 +1,6 @@
 //! How the lowest free page is found: all in which the two engines differ.
 
-use super::state::PAGES;
+use super::sizes::PAGES;
 
 pub trait Search {
     /// The lowest page that the map marks, bit n for page n.

@@ -4,16 +4,7 @@ use std::marker::PhantomData;
 
 use ration::SIZE;
 
-pub const GUESTS: usize = 4;
-pub const HOST_PAGES: usize = 4;
-pub const PAGES: usize = 64;
-pub const VIRTUALS: usize = 64;
-pub const PHYSICALS: usize = 16;
-pub const SETS: usize = 8;
-pub const WAYS: usize = 2;
-pub const SLOTS: usize = 8;
-pub const STEALTH: u8 = 7;
-pub const FIRST_HOST_VA: usize = 48;
+use super::sizes::{CALL_BYTES, GUESTS, HOST_PAGES, PAGES, PHYSICALS, SETS, SLOTS, VIRTUALS, WAYS};
 
 pub const OWNER_NONE: u8 = 0;
 pub const OWNER_HOST: u8 = 1;
@@ -118,11 +109,11 @@ impl<S> Engine<S> {
         bytes.extend(self.owner);
         bytes.extend(self.kind);
         bytes.extend(self.cacheable.map(u8::from));
-        bytes.extend(self.entry.as_flattened());
-        bytes.extend(self.physical.as_flattened());
+        bytes.extend(self.entry.iter().flatten());
+        bytes.extend(self.physical.iter().flatten());
         bytes.extend(self.free.to_le_bytes());
         bytes.extend(self.current);
-        for place in 0..3 {
+        for place in 0..CALL_BYTES {
             bytes.extend(self.call.map(|call| call.to_le_bytes()[place]));
         }
         bytes.extend([self.active as u8, self.mode]);
