@@ -51,9 +51,10 @@ fn input() -> Result<Vec<u8>, String> {
 }
 
 fn run(from: &str, to: &str) -> Outcome {
+    let journal = input()?;
     let image =
         if from.is_empty() { None } else { Some(fs::read(from).map_err(|e| e.to_string())?) };
-    let ended = program(image.as_deref(), &input()?);
+    let ended = program(image.as_deref(), &journal);
     put(ended.text.as_bytes())?;
     if let Some(image) = ended.saved.filter(|_| !to.is_empty()) {
         keep(&image, to).map_err(|e| e.to_string())?;
