@@ -85,7 +85,7 @@ enum ration_kind {
     RATION_KIND_WRITE_HYPER = 4, /* writes value at va a of the active guest; waiting */
     RATION_KIND_NEW = 5,         /* maps va a to the page at pa b; waiting, call new */
     RATION_KIND_NEW_SM = 6,      /* maps the stealth address, a = 7, to the page at pa b; waiting, call new */
-    RATION_KIND_DEL = 7,         /* unmaps va a; waiting, call del */
+    RATION_KIND_DEL = 7,         /* unmaps va a, where the current table maps it; waiting, call del */
     RATION_KIND_SWITCH = 8,      /* makes guest a the active one; waiting, and guest a has no pending call */
     RATION_KIND_LSWITCH = 9,     /* makes the table at pa a the current one; waiting, call lswitch */
     RATION_KIND_HCALL = 10,      /* stores call with its arguments a and b, and gives control to the host; running */
@@ -122,7 +122,7 @@ enum ration_number {
     RATION_REFUSED_MODE = 3,              /* a guest's action while the host has control, or the host's while a guest runs */
     RATION_REFUSED_CALL = 4,              /* the call is not exactly this one; chmod, switch: the guest has one; drop: it has none */
     RATION_REFUSED_RESERVED = 5,          /* reads, writes, new, del: the address is reserved; new: or it is 7 */
-    RATION_REFUSED_UNMAPPED = 6,          /* reads, writes: the current table maps nothing there */
+    RATION_REFUSED_UNMAPPED = 6,          /* reads, writes, del: the current table maps nothing there */
     RATION_REFUSED_UNREGISTERED = 7,      /* new, new_sm, lswitch, unpin: the guest has no page at this pa */
     RATION_REFUSED_PAGE_KIND = 8,         /* new, new_sm: the page is not data; lswitch: it is no table */
     RATION_REFUSED_STEALTH_SHARED = 9,    /* new: a table maps 7 to the page; new_sm: one maps another va to it, or it is shared */

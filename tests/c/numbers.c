@@ -62,6 +62,8 @@ static void gives(const char *what, int kind, int a, int b, int call, uint32_t v
 #define REFUSES(number, kind, a, b) gives(#number " of " #kind " " #a " " #b, RATION_KIND_##kind, a, b, 0, 0, RATION_REFUSED_##number, 0)
 /* a guest asks, and the host does it and lets the guest run on */
 #define SERVES(call, a, b) (ASKS(call, a, b), DOES(call, a, b), DOES(CHMOD, 0, 0))
+/* guest 0 asks for del where nothing is mapped: refused, and the guest waits until the call is dropped */
+#define MISSES(va) (ASKS(DEL, va, 0), REFUSES(UNMAPPED, DEL, va, 0), REFUSES(CALL, CHMOD, 0, 0), DOES(DROP, 0, 0), DOES(CHMOD, 0, 0))
 
 static void sizes(void) {
     same("RATION_SIZE", "ration_size()", (uint32_t)ration_size(), RATION_SIZE);
@@ -89,7 +91,12 @@ static void reserved_addresses(void) {
     for (int va = 0; va < RATION_VIRTUALS; va++) {
         char what[32];
         snprintf(what, sizeof what, "RATION_RESERVED(%d)", va);
-        gives(what, RATION_KIND_READ, va, 0, 0, 0, RATION_RESERVED(va) ? RATION_REFUSED_RESERVED : RATION_REFUSED_UNMAPPED, 0);
+        int number = RATION_RESERVED(va) ? RATION_REFUSED_RESERVED : RATION_REFUSED_UNMAPPED;
+        gives(what, RATION_KIND_READ, va, 0, 0, 0, number, 0);
+        gives(what, RATION_KIND_HCALL, va, 0, RATION_CALL_DEL, 0, RATION_DONE, 0);
+        gives(what, RATION_KIND_DEL, va, 0, 0, 0, number, 0);
+        DOES(DROP, 0, 0);
+        DOES(CHMOD, 0, 0);
     }
     same("RATION_STEALTH", "reserved", RATION_RESERVED(RATION_STEALTH), false);
     same("RATION_FIRST_HOST_VA", "reserved", RATION_RESERVED(RATION_FIRST_HOST_VA), true);
@@ -113,6 +120,7 @@ static void kinds(void) {
     DOES(CHMOD, 0, 0);
     SERVES(DEL, 3, 0);
     REFUSES(UNMAPPED, READ, 3, 0);
+    MISSES(3);
     SERVES(UNPIN, 2, 0);
     SERVES(PIN, 1, RATION_PIN_DATA);
     ASKS(NEW, RATION_STEALTH, 1);
@@ -123,6 +131,7 @@ static void kinds(void) {
     SERVES(PIN, 4, RATION_PIN_TABLE);
     SERVES(LSWITCH, 4, 0);
     REFUSES(UNMAPPED, READ, RATION_STEALTH, 0);
+    MISSES(RATION_STEALTH);
     SERVES(LSWITCH, 0, 0);
     READS(READ, RATION_STEALTH, 9);
     ASKS(NONE, 0, 0);

@@ -58,7 +58,7 @@ pub enum Refusal {
     Call,
     /// 5: the virtual address is reserved, or is the stealth address and needs `new_sm`.
     Reserved,
-    /// 6: the current table maps nothing at the virtual address.
+    /// 6: the current table maps nothing at the virtual address, which is to be read, written or unmapped.
     Unmapped,
     /// 7: the guest has no page at the physical address.
     Unregistered,

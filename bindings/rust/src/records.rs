@@ -90,7 +90,7 @@ pub enum Action {
     New(Va, Pa),
     /// The host maps the stealth address to a data page, as the active guest asked by [`Call::New`].
     NewSm(Pa),
-    /// The host unmaps an address, as the active guest asked.
+    /// The host unmaps an address that the current table maps, as the active guest asked.
     Del(Va),
     /// The host makes a guest the active one, if it has no call; it keeps control.
     Switch(Guest),

@@ -136,6 +136,9 @@ fn refusals() -> Vec<(Refusal, Vec<Action>, Action)> {
         (Refusal::Reserved, vec![], Action::Read(Va(47))),
         (Refusal::Reserved, asked(Call::New(Va::STEALTH, Pa(0))), Action::New(Va::STEALTH, Pa(0))),
         (Refusal::Unmapped, vec![], Action::Read(Va(46))),
+        (Refusal::Unmapped, asked(Call::Del(Va(46))), Action::Del(Va(46))),
+        (Refusal::Unmapped, asked(Call::Del(Va::STEALTH)), Action::Del(Va::STEALTH)),
+        (Refusal::Reserved, asked(Call::Del(Va(47))), Action::Del(Va(47))),
         (Refusal::Unregistered, asked(Call::Unpin(Pa(1))), Action::Unpin(Pa(1))),
         (Refusal::PageKind, asked(Call::New(Va(0), Pa(0))), Action::New(Va(0), Pa(0))),
         (

@@ -224,10 +224,11 @@ fn of_new_sm(h: &Host, b: Pa) -> u8
     }
 }
 
+// Those of an access.
 fn of_del(h: &Host, a: Va) -> u8
     ensures { λ r. ⌜ r ≡ first (delChecks (asked (view (now (h .entry)) .shape)) (a .0)) ⌝ }
 {
-    if reserved(a) { RESERVED } else { ACCEPTED }
+    of_access(h, a)
 }
 
 fn of_lswitch_page(h: &Host, p: Ma) -> u8

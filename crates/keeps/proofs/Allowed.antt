@@ -205,8 +205,16 @@ module _ {s : State} (v : Valid s) where
         notElsewhere = e′ .1;
         unmapped = λ p h l. never (leads⇔ stealth (omega arith)) .0 n (p, h, l);
       }
-  allowed-if (del va) hv (m, (c, (u, z))) =
-      record { waits = inMode waiting refl .0 m; pending = notCall callDel va 0 .0 c; unreserved = unreserved va u }
+  allowed-if (del va) hv (m, (c, (u, (t, z)))) =
+      let w = unless (leads⇔ va hv) .0 t in
+      record {
+        waits = inMode waiting refl .0 m;
+        pending = notCall callDel va 0 .0 c;
+        unreserved = unreserved va u;
+        page = w .0;
+        isPage = w .1;
+        mapped = w .2;
+      }
   allowed-if (switch g) hg (m, (c, z)) = record { waits = inMode waiting refl .0 m; idle = idle g .0 c }
   allowed-if (lswitch pa) hp (m, (c, (t, (d, z)))) =
       record {
@@ -286,7 +294,8 @@ module _ {s : State} (v : Valid s) where
     ),
   )
   if-allowed (del va) r a =
-      (inMode waiting refl .1 (a .waits), (notCall callDel va 0 .1 (a .pending), (not-reserved va (a .unreserved), tt)))
+      let l = unless (leads⇔ va r) .1 (a .page, a .isPage, a .mapped) in
+      (inMode waiting refl .1 (a .waits), (notCall callDel va 0 .1 (a .pending), (not-reserved va (a .unreserved), (l, tt))))
   if-allowed (switch g) r a = (inMode waiting refl .1 (a .waits), (idle g .1 (a .idle), tt))
   if-allowed (lswitch pa) r a = (
     inMode waiting refl .1 (a .waits),

@@ -81,6 +81,9 @@ pub record AllowsDel (h : Shape) (va : ℕ) : Type 0 where
   pub waits : h .guests .mode ≡ waiting
   pub pending : Pending h callDel va 0
   pub unreserved : Unreserved va
+  pub page : ℕ
+  pub isPage : page < pages
+  pub mapped : Leads h va page
 
 pub record AllowsSwitch (h : Shape) (g : ℕ) : Type 0 where
   pub waits : h .guests .mode ≡ waiting

@@ -1,5 +1,6 @@
 -- del.
 -- Assumes nothing.
+use mathlib.Core.Bool.{not}
 use mathlib.Core.List.{List, [], _∷_}
 use Prim.Native.Nat.{ℕ}
 use Rattle.model.specs.Sizes.{reserved}
@@ -9,9 +10,9 @@ use Rattle.model.specs.Parts.{shaped, setEntry, forget, clearCall, takeO
 use Rattle.model.specs.New.{oldLine}
 
 abbrev pub delChecks : Asked → ℕ → List Check
-delChecks q va = (5, reserved va) ∷ []
+delChecks q va = (5, reserved va) ∷ (6, not (q .maps va)) ∷ []
 
--- va's line in this table taken out, entry and TLB entry removed, call cleared. An unmapped address is accepted.
+-- va's line in this table taken out, entry and TLB entry removed, call cleared.
 unfoldable pub delStep : State → ℕ → State
 delStep s va =
     let t = takeOut s (oldLine (s .shape) va) in

@@ -85,6 +85,10 @@ hides pa = does (hcall callNew stealth pa) ++ does (newSm pa) ++ does chmod
 abbrev pub deletes : ℕ → List Exchange
 deletes va = does (hcall callDel va 0) ++ does (del va) ++ does chmod
 
+-- guest 0 asks for del where nothing is mapped: refused, and the call is pending until it is dropped
+abbrev pub misses : ℕ → List Exchange
+misses va = does (hcall callDel va 0) ++ gets 6 (del va) ++ gets 4 chmod ++ does (drop 0) ++ does chmod
+
 abbrev pub changesTable : ℕ → List Exchange
 changesTable pa = does (hcall callLswitch pa 0) ++ does (lswitch pa) ++ does chmod
 
@@ -129,6 +133,9 @@ slotIs i va p s = eqb (at (s .shape .tlb .slotAddress) i) va && eqb (at (s .shap
 
 abbrev pub slotEmpty : ℕ → State → Bool
 slotEmpty i s = eqb (at (s .shape .tlb .slotAddress) i) 0 && eqb (at (s .shape .tlb .slotPage) i) 0
+
+abbrev pub callIs : ℕ → ℕ → ℕ → ℕ → State → Bool
+callIs g c a b s = eqb (at (s .shape .guests .call) g) c && eqb (at (s .shape .guests .callA) g) a && eqb (at (s .shape .guests .callB) g) b
 
 -- ---- single records and short runs, the nine records, a line taken out, all pages pinned
 
@@ -193,11 +200,15 @@ lineMends =
     -- del and new write a dirty line back, and a line that is taken out leaves the history
     ending (deletes 0) (λ s. memoryIs 8 300 s && noLineAt 0 s && historyIs 0 1 s)
     ∷ row (deletes 0 ++ maps 9 1 ++ yields 9 300 ++ deletes 9)
+    -- a second del finds nothing, and so does another guest's, at an address of its own; the line and the TLB entry stay
+    ∷ row (deletes 0 ++ misses 0 ++ maps 0 1 ++ deletes 0)
+    ∷ ending (turnsTo 1 ++ does (hcall callDel 0 0) ++ gets 6 (del 0)) (λ s. callIs 1 callDel 0 0 s && lineIs 0 0 8 300 s && memoryIs 8 0 s)
+    ∷ ending (misses 16) (λ s. slotIs 0 0 8 s && lineIs 0 0 8 300 s)
     ∷ ending (pins 2 0 ++ maps 0 2 ++ yields 0 0) (λ s. memoryIs 8 300 s && lineIs 0 0 9 0 s)
     -- also where the page is the same, and the TLB entry goes
     ∷ ending (maps 0 1) (λ s. slotEmpty 0 s && noLineAt 0 s && memoryIs 8 300 s)
     -- but not where the slot holds another address
-    ∷ ending (deletes 16) (λ s. slotIs 0 0 8 s && lineIs 0 0 8 300 s)
+    ∷ ending (pins 2 0 ++ maps 16 2 ++ deletes 16) (λ s. slotIs 0 0 8 s && lineIs 0 0 8 300 s)
     ∷ ending (pins 2 0 ++ maps 8 2) (slotIs 0 0 8)
     -- a page not cacheable never enters the cache
     ∷ ending (maps 1 1 ++ yields 1 300 ++ does (write 1 7) ++ yields 0 7) (λ s. noLineAt 0 s && noLineAt 2 s && memoryIs 8 7 s)
@@ -225,6 +236,8 @@ abbrev pub sharingMends : List Sample
 sharingMends =
     ending (maps 0 1 ++ yields 0 300) (markIs 8 1)
     ∷ ending (maps 1 1 ++ yields 1 300) (markIs 8 0)
+    -- del of what only another table maps
+    ∷ ending (misses 0 ++ changesTable 0 ++ yields 0 300) (λ s. callIs 0 callNone 0 0 s && lineIs 0 0 8 300 s)
     -- unpin of a table with entries that is not current
     ∷ row (does (hcall callUnpin 0 0) ++ gets 12 (unpin 0))
     ∷ []
@@ -290,8 +303,8 @@ checksInOrder =
     -- read_hyper, write and write_hyper check the address too
     ∷ row (gets 5 (write 15 1) ++ gets 6 (write 0 1) ++ does retCtrl ++ gets 5 (readHyper 15) ++ gets 6 (readHyper 0) ++ gets 5 (writeHyper 63 1)
     ++ gets 6 (writeHyper 0 1))
-    -- del of an address that is not mapped passes, of a reserved one does not
-    ∷ row (deletes 0 ++ deletes 7 ++ does (hcall callDel 15 0) ++ gets 5 (del 15))
+    -- del of an address that is not mapped, of 7 too, and of a reserved one
+    ∷ row (misses 0 ++ misses 7 ++ does (hcall callDel 15 0) ++ gets 5 (del 15) ++ does (drop 0) ++ does chmod ++ does (hcall callDel 63 0) ++ gets 5 (del 63))
     ∷ row (does (hcall callNew 0 0) ++ gets 8 (new 0 0))
     ∷ row (does (hcall callNew 7 0) ++ gets 8 (newSm 0))
     ∷ row (does (hcall callLswitch 1 0) ++ gets 7 (lswitch 1))
@@ -304,9 +317,6 @@ checksInOrder =
     ∷ []
 
 -- ---- calls that the host declines
-
-abbrev pub callIs : ℕ → ℕ → ℕ → ℕ → State → Bool
-callIs g c a b s = eqb (at (s .shape .guests .call) g) c && eqb (at (s .shape .guests .callA) g) a && eqb (at (s .shape .guests .callB) g) b
 
 -- the host has control, and guest g is the active one
 abbrev pub waitsAt : ℕ → State → Bool

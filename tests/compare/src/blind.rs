@@ -33,6 +33,13 @@ fn del(out: &mut Records, va: u8) {
     serve(out, 2, va, 0);
 }
 
+/// Where it is refused, its call is dropped, so that the guest runs on, mapped or not: the one
+/// that was switched to last.
+fn del_or_drop(out: &mut Records, va: u8) {
+    let last = out.iter().rev().find(|record| record[0] == 8).map_or(0, |switch| switch[1]);
+    out.extend([record(10, va, 0, 2), action(2, va, 0), record(15, last, 0, 0), CHMOD]);
+}
+
 fn lswitch(out: &mut Records, pa: u8) {
     serve(out, 3, pa, 0);
 }
@@ -63,8 +70,8 @@ pub fn read(out: &mut Records, va: u8) {
     out.push(record(1, va, 0, 0));
 }
 
-/// Scripts that are accepted whatever went before; late in the run now and then one that
-/// may not be, and a guest whose call is refused is stuck until it comes back.
+/// Scripts after which the guest runs, whatever went before; late in the run now and then one
+/// that may be refused, and a guest whose call is refused is stuck until it is dropped.
 pub fn scripts(seed: u64, count: usize) -> Records {
     let mut rng = Rng::new(seed ^ 0x0062_6C69_6E64);
     let mut out = Vec::new();
@@ -103,10 +110,16 @@ fn careful(out: &mut Records, rng: &mut Rng, guests: usize) {
     let of = |rng: &mut Rng, from: &[u8]| rng.pick(from).unwrap_or(0);
     match rng.below(12) {
         0..=3 => new(out, va, of(rng, &SHARED)),
-        4 => del(out, va),
+        4 if rng.percent(50) => {
+            new(out, va, of(rng, &SHARED));
+            del(out, va);
+        }
+        4 => del_or_drop(out, va),
         5 => {
-            del(out, 7);
-            new(out, 7, of(rng, &STEALTHY));
+            del_or_drop(out, 7);
+            if rng.percent(80) {
+                new(out, 7, of(rng, &STEALTHY));
+            }
         }
         6 | 7 => lswitch(out, of(rng, &TABLES)),
         8 => {
@@ -122,12 +135,13 @@ fn careful(out: &mut Records, rng: &mut Rng, guests: usize) {
 fn risky(out: &mut Records, rng: &mut Rng) {
     let va = rng.pick(&[0, 8, 7, 7, 15, 47, 63]).unwrap_or(0);
     let pa = rng.below(12) as u8;
-    match rng.below(6) {
+    match rng.below(7) {
         0 => new(out, va, pa),
         1 => unpin(out, pa),
         2 => pin(out, pa, rng.percent(50)),
         3 => lswitch(out, pa),
         4 => serve(out, 1 + rng.below(5) as u8, va, pa),
+        5 => del(out, va),
         _ => out.push(record(rng.below(17) as u8, va, pa, rng.below(6) as u8)),
     }
 }

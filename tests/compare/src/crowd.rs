@@ -2,7 +2,7 @@
 
 use second::gen::driver::Driver;
 use second::state::Kind;
-use second::{Action, Call, GuestId, Phys, Virt, STEALTH};
+use second::{encode, Action, Call, GuestId, Phys, Virt, STEALTH};
 
 /// Three addresses of set 0, two of set 1, and the stealth address.
 const ADDRESSES: [u8; 6] = [0, 8, 16, 1, 9, 7];
@@ -51,10 +51,14 @@ fn access(driver: &mut Driver) {
     }
 }
 
-/// A call that can be served, and its action at once or after accesses of the host.
+/// A call that can be served, and its action at once or after accesses of the host. One that
+/// cannot is left out, or refused.
 fn serve(driver: &mut Driver) {
     let call = some_call(driver);
-    if driver.would_serve(call) != 0 || !driver.run_guest() {
+    if driver.would_serve(call) != 0 {
+        return refused(driver, call);
+    }
+    if !driver.run_guest() {
         return;
     }
     driver.accept(Action::Hcall(Some(call)));
@@ -77,6 +81,19 @@ fn some_call(driver: &mut Driver) -> Call {
         7..=9 => Call::Del { va },
         10 | 11 => Call::New { va: STEALTH, pa: data },
         _ => Call::New { va, pa: data },
+    }
+}
+
+/// Where near misses are wanted, a call whose action is refused; it is dropped at once, or left.
+fn refused(driver: &mut Driver, call: Call) {
+    let wanted = driver.misses > 0 && driver.rng.percent(30);
+    if !wanted || !driver.run_guest() {
+        return;
+    }
+    driver.accept(Action::Hcall(Some(call)));
+    driver.give(encode(call.action()));
+    if driver.rng.percent(80) {
+        driver.accept(Action::Drop { guest: driver.guest() });
     }
 }
 

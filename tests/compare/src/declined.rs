@@ -9,11 +9,14 @@ use crate::blind::{action, come, new, pin, read, record, write, Records, CHMOD, 
 const GUESTS: u8 = GuestId::COUNT as u8;
 
 /// Calls that are refused whenever they are asked for here: call, a and b.
-const HOPELESS: [(u8, u8, u8); 9] = [
+const HOPELESS: [(u8, u8, u8); 12] = [
     (1, 9, 0),
     (1, 3, 15),
     (1, 7, 2),
     (2, 63, 0),
+    (2, 0, 0),
+    (2, 9, 0),
+    (2, 46, 0),
     (3, 1, 0),
     (3, 14, 0),
     (4, 2, 1),

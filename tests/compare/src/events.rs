@@ -2,7 +2,8 @@
 //! meet no write-back compare little.
 
 use second::gen::calls::{self, Calls};
-use second::{decode, fresh, step, Action, Mach, State, HEADER, STEALTH};
+use second::state::Owner;
+use second::{decode, fresh, step, Action, GuestId, Mach, State, Virt, HEADER, STEALTH};
 
 use crate::journals::Journal;
 
@@ -20,15 +21,24 @@ const NAMES: [&str; 17] = [
     "two lines of one address in a set",
     "TLB entry dropped by new or del",
     "new in place of another entry",
-    "del of an address not mapped",
+    "del of an address without a TLB entry",
     "a table other than the first in force",
     "last free page taken",
     "page with a value given back",
 ];
 
+/// What else there was at the address of a del that the table in force does not map.
+const UNMAPPED: [&str; 4] = [
+    "del refused with 6, another table of the guest maps the address",
+    "del refused with 6, tables of other guests alone map the address",
+    "del refused with 6 at the stealth address",
+    "del refused with 6, a line of the address in the cache",
+];
+
 #[derive(Default)]
 pub struct Events {
     steps: [usize; NAMES.len()],
+    unmapped: [usize; UNMAPPED.len()],
     calls: [usize; calls::NAMES.len()],
 }
 
@@ -41,12 +51,16 @@ struct Passage<'a> {
 impl Events {
     /// Everything happened once.
     pub fn full() -> Events {
-        Events { steps: [1; NAMES.len()], calls: [1; calls::NAMES.len()] }
+        Events {
+            steps: [1; NAMES.len()],
+            unmapped: [1; UNMAPPED.len()],
+            calls: [1; calls::NAMES.len()],
+        }
     }
 
     /// The counts, of which none may be 0.
     pub fn needed(&mut self) -> Vec<&mut usize> {
-        self.steps.iter_mut().chain(&mut self.calls).collect()
+        self.steps.iter_mut().chain(&mut self.unmapped).chain(&mut self.calls).collect()
     }
 
     pub fn watch(&mut self, journals: &[Journal]) {
@@ -57,17 +71,21 @@ impl Events {
                 let before = state.clone();
                 let number = step(&mut state, record).0;
                 add(&mut self.calls, &calls.note(record, number, &before));
-                if let (0, Some(action)) = (number, decode(record)) {
-                    let passage = Passage { action, before: &before, after: &state };
-                    add(&mut self.steps, &passage.happened());
+                match (number, decode(record)) {
+                    (0, Some(action)) => {
+                        let passage = Passage { action, before: &before, after: &state };
+                        add(&mut self.steps, &passage.happened());
+                    }
+                    (6, Some(Action::Del { va })) => add(&mut self.unmapped, &unmapped(&state, va)),
+                    _ => {}
                 }
             }
         }
     }
 
     fn all(&self) -> impl Iterator<Item = (&str, usize)> + '_ {
-        let names = NAMES.into_iter().chain(calls::NAMES);
-        names.zip(self.steps.into_iter().chain(self.calls))
+        let names = NAMES.into_iter().chain(UNMAPPED).chain(calls::NAMES);
+        names.zip(self.steps.into_iter().chain(self.unmapped).chain(self.calls))
     }
 
     pub fn print(&self) {
@@ -86,6 +104,14 @@ fn add(counts: &mut [usize], happened: &[bool]) {
     for (count, happened) in counts.iter_mut().zip(happened) {
         *count += *happened as usize;
     }
+}
+
+fn unmapped(state: &State, va: Virt) -> [bool; UNMAPPED.len()] {
+    let tables = state.pages.iter().filter(|page| !page.entries[va.index()].is_empty());
+    let owners: Vec<Owner> = tables.map(|table| table.owner).collect();
+    let own = GuestId::new(state.active).is_some_and(|g| owners.contains(&Owner::Guest(g)));
+    let line = state.lines().any(|line| line.address == va.byte() && !line.page.is_empty());
+    [own, !own && !owners.is_empty(), va == STEALTH, line]
 }
 
 impl Passage<'_> {
@@ -111,7 +137,7 @@ impl Passage<'_> {
             self.same_address(),
             (new || del) && self.before.tlb != self.after.tlb,
             new && entry.is_some(),
-            del && entry.is_none(),
+            del && self.before.tlb == self.after.tlb,
             self.after.guests[self.after.active as usize].current != 0,
             self.before.free != 0 && self.after.free == 0,
             self.given_back(),

@@ -105,7 +105,9 @@ fn reserved_address(_: &Scene, action: Action) -> bool {
 
 fn unmapped_address(scene: &Scene, action: Action) -> bool {
     match action {
-        Action::Read { va, .. } | Action::Write { va, .. } => scene.maps(va).is_none(),
+        Action::Read { va, .. } | Action::Write { va, .. } | Action::Del { va } => {
+            scene.maps(va).is_none()
+        }
         _ => false,
     }
 }

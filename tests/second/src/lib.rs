@@ -1,8 +1,8 @@
 //! A second, independent implementation of the ration host.
 //!
 //! Written from the rules and their readings, as they stood before docs/HOST.md had them (docs/DECISIONS.md), and from docs/STATE.md and
-//! docs/RULES.md alone, for comparison with another implementation; drop from docs/HOST.md, images
-//! from it and docs/IMAGE.md.
+//! docs/RULES.md alone, for comparison with another implementation; drop and 6 of del from docs/HOST.md,
+//! images from it and docs/IMAGE.md.
 
 pub mod bytes;
 pub mod cache;

@@ -88,9 +88,8 @@ fn new_sm(state: &mut State, guest: GuestId, table: Mach, pa: Phys) {
 }
 
 fn del(state: &mut State, table: Mach, va: Virt) {
-    if let Some(page) = state.maps(table, va) {
-        state.take_out_key(va, page);
-    }
+    let page = state.maps(table, va).expect("check 6 did not apply");
+    state.take_out_key(va, page);
     state.page_mut(table).entries[va.index()] = Place::Empty;
     state.forget(va);
 }

@@ -121,6 +121,48 @@ fn bytes_that_are_no_record() {
 }
 
 #[test]
+fn del_of_what_is_not_mapped() {
+    let records = [
+        [10, 9, 0, 2],
+        [7, 9, 0, 0],
+        [12, 0, 0, 0],
+        [15, 0, 0, 0],
+        [12, 0, 0, 0],
+        [10, 7, 0, 2],
+        [7, 7, 0, 0],
+        [15, 0, 0, 0],
+        [12, 0, 0, 0],
+        [10, 15, 0, 2],
+        [7, 15, 0, 0],
+    ];
+    assert_eq!(answers(&records), [0, 6, 4, 0, 0, 0, 6, 0, 0, 0, 5]);
+}
+
+#[test]
+fn del_of_what_only_another_table_maps() {
+    let mut m = after_nine();
+    m.served(4, 2, 1);
+    m.served(3, 2, 0);
+    assert_eq!(m.call(2, 0, 0), 6);
+    m.ok(15, 0, 0);
+    m.ok(12, 0, 0);
+    m.served(3, 0, 0);
+    assert_eq!(m.read(0), 300);
+}
+
+#[test]
+fn del_twice() {
+    let mut m = after_nine();
+    m.served(2, 0, 0);
+    assert_eq!(m.call(2, 0, 0), 6);
+    m.ok(15, 0, 0);
+    m.ok(12, 0, 0);
+    m.served(1, 0, 1);
+    assert_eq!(m.read(0), 300);
+    m.served(2, 0, 0);
+}
+
+#[test]
 fn a_refused_call_is_declined() {
     let records = [
         [15, 4, 0, 0],

@@ -212,7 +212,7 @@ fn del_and_new_write_back() {
     m.served(2, 0, 0);
     assert_eq!((m.memory(8), m.line(0, 0), m.slot(0)), (300, None, None));
     assert_eq!(m.history(0), 1);
-    m.served(2, 0, 0);
+    assert_eq!(m.call(2, 0, 0), 6);
     let mut m = after_nine();
     m.served(4, 2, 0);
     m.served(1, 0, 2);
@@ -225,10 +225,10 @@ fn del_and_new_write_back() {
 #[test]
 fn the_entry_of_another_address_stays_in_its_slot() {
     let mut m = after_nine();
-    m.served(2, 8, 0);
-    assert_eq!(m.slot(0), Some((0, 8)));
     m.served(4, 2, 0);
     m.served(1, 16, 2);
+    assert_eq!(m.slot(0), Some((0, 8)));
+    m.served(2, 16, 0);
     assert_eq!(m.slot(0), Some((0, 8)));
 }
 

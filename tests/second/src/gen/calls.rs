@@ -20,14 +20,19 @@ pub fn any(rng: &mut Rng) -> (u8, u8, u8) {
     (1 + call as u8, rng.below(a) as u8, rng.below(b) as u8)
 }
 
-pub const NAMES: [&str; 6] = [
+pub const NAMES: [&str; 8] = [
     "call refused, then dropped",
     "call left behind by a switch, then dropped while another guest was active",
     "guest ran again after its call was dropped",
     "guest ran after drop, switch, chmod in a row, the drop done",
     "guest ran after drop, switch, chmod in a row, the drop refused",
     "call of another guest stayed when one was dropped",
+    "guest did not run, its del having been refused with 6",
+    "del refused with 6, its call dropped, and the guest ran again",
 ];
+
+/// del and its refusal of an address that is not mapped.
+const DEL_UNMAPPED: (u8, u8) = (7, 6);
 
 #[derive(Clone, Copy, PartialEq, Default)]
 enum Fate {
@@ -41,6 +46,8 @@ enum Fate {
 #[derive(Default)]
 pub struct Calls {
     fates: [Fate; GuestId::COUNT],
+    /// Whether that call is a del that was refused with 6.
+    unmapped: [bool; GuestId::COUNT],
     latest: [(u8, u8, u8); 2],
 }
 
@@ -50,16 +57,24 @@ impl Calls {
         let (kind, named, active) = (record[0], record[1], before.active as usize);
         let mut happened = [false; NAMES.len()];
         match (kind, number) {
-            (10, 0) => self.fates[active] = Fate::Open,
-            (5..=7 | 9 | 13 | 14, 5..) => self.fates[active] = Fate::Refused,
+            (10, 0) => {
+                self.fates[active] = Fate::Open;
+                self.unmapped[active] = false;
+            }
+            (5..=7 | 9 | 13 | 14, 5..) => {
+                self.fates[active] = Fate::Refused;
+                self.unmapped[active] = (kind, number) == DEL_UNMAPPED;
+            }
             (12, 0) => {
                 let in_a_row =
                     |dropped| self.latest == [(15, before.active, dropped), (8, before.active, 0)];
                 happened[2] = self.fates[active] == Fate::Dropped;
                 happened[3] = in_a_row(0);
                 happened[4] = in_a_row(4);
+                happened[7] = happened[2] && self.unmapped[active];
                 self.fates[active] = Fate::Open;
             }
+            (12, 4) => happened[6] = self.unmapped[active],
             (15, 0) => {
                 let others = before.guests.iter().enumerate().filter(|(g, _)| *g != named as usize);
                 happened[0] = self.fates[named as usize] == Fate::Refused;

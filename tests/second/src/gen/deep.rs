@@ -229,12 +229,15 @@ pub fn stealth(driver: &mut Driver) {
     }
 }
 
+/// Where nothing is mapped, another table may map something.
 fn del(driver: &mut Driver) {
     let mapped = driver.mapped();
-    let open: Vec<Virt> = Virt::all().filter(|va| !va.is_reserved()).collect();
-    let from = if mapped.is_empty() || driver.rng.percent(6) { open } else { mapped };
-    if let Some(va) = driver.rng.pick(&from) {
-        serve(driver, Call::Del { va });
+    match driver.rng.pick(&mapped) {
+        Some(va) => {
+            serve(driver, Call::Del { va });
+        }
+        None if driver.rng.percent(50) => change_list(driver),
+        None => switch(driver),
     }
 }
 

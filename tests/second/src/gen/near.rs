@@ -1,16 +1,16 @@
 //! Near misses: accepted runs with records between them that just get refused.
 //!
 //! Most come from an accepted record with one field changed. Refusals 7 to 12 (and
-//! 5 of new) need a call that can never be served, after which the guest is stuck
-//! until it is dropped. A journal has four of those, of which some are dropped at
-//! once, and seeds take turns; at its end guests come back and there are more.
+//! 5 of new, 5 and 6 of del) need a call that can never be served, after which the
+//! guest is stuck until it is dropped. A journal has four of those, of which some are
+//! dropped at once, and seeds take turns; at its end guests come back and there are more.
 
 use crate::gen::deep::{access, one, pin, run_phase, stealth, Phase};
 use crate::gen::driver::Driver;
 use crate::numbers::{GuestId, Virt};
 use crate::record::{encode, Action, Call};
 
-const TURNS: [u8; 6] = [7, 8, 9, 10, 12, 5];
+const TURNS: [u8; 7] = [7, 8, 9, 10, 12, 5, 6];
 
 /// Room that filling all pages needs, near misses included.
 const ROOM_TO_FILL: usize = 420;
@@ -36,7 +36,7 @@ pub fn records(seed: u64, count: usize) -> Vec<[u8; 8]> {
     driver.records
 }
 
-/// Four numbers out of 7 to 12 and 5, by turns; 11 first, where there is room for it.
+/// Four numbers out of 5 to 12, by turns; 11 first, where there is room for it.
 fn wanted_numbers(driver: &mut Driver) -> Vec<u8> {
     let from = driver.rng.below(TURNS.len());
     let mut wanted: Vec<u8> = (0..4).map(|i| TURNS[(from + i) % TURNS.len()]).collect();

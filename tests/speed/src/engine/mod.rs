@@ -151,6 +151,7 @@ impl<S: Search> Engine<S> {
 
     fn del(&mut self, va: u8) -> Result<(), u8> {
         refuse_reserved(va)?;
+        refuse(self.entry[self.table][usize::from(va)] == 0, 6)?;
         self.unmap(va);
         Ok(())
     }
