@@ -85,7 +85,7 @@ enum ration_kind {
     RATION_KIND_WRITE_HYPER = 4, /* writes value at va a of the active guest; waiting */
     RATION_KIND_NEW = 5,         /* maps va a to the page at pa b; waiting, call new */
     RATION_KIND_NEW_SM = 6,      /* maps the stealth address, a = 7, to the page at pa b; waiting, call new */
-    RATION_KIND_DEL = 7,         /* unmaps va a, where the current table maps it; waiting, call del */
+    RATION_KIND_DEL = 7,         /* unmaps va a, which the current table must map; waiting, call del */
     RATION_KIND_SWITCH = 8,      /* makes guest a the active one; waiting, and guest a has no pending call */
     RATION_KIND_LSWITCH = 9,     /* makes the table at pa a the current one; waiting, call lswitch */
     RATION_KIND_HCALL = 10,      /* stores call with its arguments a and b, and gives control to the host; running */

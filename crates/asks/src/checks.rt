@@ -224,7 +224,7 @@ fn of_new_sm(h: &Host, b: Pa) -> u8
     }
 }
 
-// Those of an access.
+// del's checks are those of an access.
 fn of_del(h: &Host, a: Va) -> u8
     ensures { λ r. ⌜ r ≡ first (delChecks (asked (view (now (h .entry)) .shape)) (a .0)) ⌝ }
 {

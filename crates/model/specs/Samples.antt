@@ -85,7 +85,7 @@ hides pa = does (hcall callNew stealth pa) ++ does (newSm pa) ++ does chmod
 abbrev pub deletes : ℕ → List Exchange
 deletes va = does (hcall callDel va 0) ++ does (del va) ++ does chmod
 
--- guest 0 asks for del where nothing is mapped: refused, and the call is pending until it is dropped
+-- guest 0 asks for del where the table in force maps nothing: refused, and the call is pending until it is dropped
 abbrev pub misses : ℕ → List Exchange
 misses va = does (hcall callDel va 0) ++ gets 6 (del va) ++ gets 4 chmod ++ does (drop 0) ++ does chmod
 
@@ -200,16 +200,16 @@ lineMends =
     -- del and new write a dirty line back, and a line that is taken out leaves the history
     ending (deletes 0) (λ s. memoryIs 8 300 s && noLineAt 0 s && historyIs 0 1 s)
     ∷ row (deletes 0 ++ maps 9 1 ++ yields 9 300 ++ deletes 9)
-    -- a second del finds nothing, and so does another guest's, at an address of its own; the line and the TLB entry stay
-    ∷ row (deletes 0 ++ misses 0 ++ maps 0 1 ++ deletes 0)
-    ∷ ending (turnsTo 1 ++ does (hcall callDel 0 0) ++ gets 6 (del 0)) (λ s. callIs 1 callDel 0 0 s && lineIs 0 0 8 300 s && memoryIs 8 0 s)
-    ∷ ending (misses 16) (λ s. slotIs 0 0 8 s && lineIs 0 0 8 300 s)
     ∷ ending (pins 2 0 ++ maps 0 2 ++ yields 0 0) (λ s. memoryIs 8 300 s && lineIs 0 0 9 0 s)
     -- also where the page is the same, and the TLB entry goes
     ∷ ending (maps 0 1) (λ s. slotEmpty 0 s && noLineAt 0 s && memoryIs 8 300 s)
     -- but not where the slot holds another address
     ∷ ending (pins 2 0 ++ maps 16 2 ++ deletes 16) (λ s. slotIs 0 0 8 s && lineIs 0 0 8 300 s)
     ∷ ending (pins 2 0 ++ maps 8 2) (slotIs 0 0 8)
+    -- del finds nothing the second time, nor another guest's of the same number, nor one of an address of the same set and slot; what is there stays
+    ∷ row (deletes 0 ++ misses 0 ++ maps 0 1 ++ deletes 0 ++ maps 0 1 ++ yields 0 300 ++ deletes 0)
+    ∷ ending (turnsTo 1 ++ does (hcall callDel 0 0) ++ gets 6 (del 0)) (λ s. callIs 1 callDel 0 0 s && lineIs 0 0 8 300 s && memoryIs 8 0 s)
+    ∷ ending (misses 16) (λ s. slotIs 0 0 8 s && lineIs 0 0 8 300 s)
     -- a page not cacheable never enters the cache
     ∷ ending (maps 1 1 ++ yields 1 300 ++ does (write 1 7) ++ yields 0 7) (λ s. noLineAt 0 s && noLineAt 2 s && memoryIs 8 7 s)
     -- it is not cacheable until it is given back
@@ -273,6 +273,8 @@ tableMends =
     ending (gets 6 (read 7)) (noLineAt stealthLine)
     ∷ row (pins 3 0 ++ hides 3 ++ does (write 7 9) ++ changesTable 0 ++ yields 7 5 ++ changesTable 2 ++ yields 7 9)
     ∷ row (does (hcall callNew 0 1) ++ gets 9 (new 0 1))
+    -- del of 7, which only the other table maps
+    ∷ row (misses 7 ++ changesTable 0 ++ yields 7 5)
     -- new_sm takes a page that another table has at 7: one page, whichever table is in force
     ∷ row (hides 1 ++ yields 7 5 ++ does (write 7 6) ++ changesTable 0 ++ yields 7 6)
     ∷ []

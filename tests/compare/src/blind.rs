@@ -34,7 +34,7 @@ fn del(out: &mut Records, va: u8) {
 }
 
 /// Where it is refused, its call is dropped, so that the guest runs on, mapped or not: the one
-/// that was switched to last.
+/// that the last switch names.
 fn del_or_drop(out: &mut Records, va: u8) {
     let last = out.iter().rev().find(|record| record[0] == 8).map_or(0, |switch| switch[1]);
     out.extend([record(10, va, 0, 2), action(2, va, 0), record(15, last, 0, 0), CHMOD]);
@@ -70,8 +70,8 @@ pub fn read(out: &mut Records, va: u8) {
     out.push(record(1, va, 0, 0));
 }
 
-/// Scripts after which the guest runs, whatever went before; late in the run now and then one
-/// that may be refused, and a guest whose call is refused is stuck until it is dropped.
+/// Scripts after which a guest that ran runs again; late in the run now and then one that may be
+/// refused, and a guest whose call is refused is stuck until it is dropped.
 pub fn scripts(seed: u64, count: usize) -> Records {
     let mut rng = Rng::new(seed ^ 0x0062_6C69_6E64);
     let mut out = Vec::new();

@@ -21,7 +21,7 @@ const NAMES: [&str; 17] = [
     "two lines of one address in a set",
     "TLB entry dropped by new or del",
     "new in place of another entry",
-    "del of an address without a TLB entry",
+    "del done, the address without a TLB entry",
     "a table other than the first in force",
     "last free page taken",
     "page with a value given back",

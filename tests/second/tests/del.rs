@@ -65,7 +65,7 @@ fn but(va: u8) -> impl Iterator<Item = u8> {
     mappable().filter(move |other| *other != va)
 }
 
-/// The guest runs, with an empty TLB. 300 was written at the address, where that can be mapped.
+/// The guest runs, with an empty TLB. Where somebody maps the address, 300 was written there.
 fn mapped(va: u8, by: By) -> Machine {
     let mut m = Machine::fresh();
     for guest in [OTHER, GUEST] {
