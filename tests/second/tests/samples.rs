@@ -138,14 +138,19 @@ fn del_of_what_is_not_mapped() {
     assert_eq!(answers(&records), [0, 6, 4, 0, 0, 0, 6, 0, 0, 0, 5]);
 }
 
+/// Guest 0 asks for del where nothing is mapped, and runs on once the call is dropped.
+fn misses(m: &mut Machine, va: u8) {
+    assert_eq!(m.call(2, va, 0), 6);
+    m.ok(15, 0, 0);
+    m.ok(12, 0, 0);
+}
+
 #[test]
 fn del_of_what_only_another_table_maps() {
     let mut m = after_nine();
     m.served(4, 2, 1);
     m.served(3, 2, 0);
-    assert_eq!(m.call(2, 0, 0), 6);
-    m.ok(15, 0, 0);
-    m.ok(12, 0, 0);
+    misses(&mut m, 0);
     m.served(3, 0, 0);
     assert_eq!(m.read(0), 300);
 }
@@ -154,9 +159,7 @@ fn del_of_what_only_another_table_maps() {
 fn del_twice() {
     let mut m = after_nine();
     m.served(2, 0, 0);
-    assert_eq!(m.call(2, 0, 0), 6);
-    m.ok(15, 0, 0);
-    m.ok(12, 0, 0);
+    misses(&mut m, 0);
     m.served(1, 0, 1);
     assert_eq!(m.read(0), 300);
     m.served(2, 0, 0);
