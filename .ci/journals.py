@@ -65,7 +65,7 @@ def journal(records):
     return HEADER + b"".join(records)
 
 
-def program(*images):
-    """The command that runs the program itself, without ./rpj: its words are the image to start from and the one to save, or none. It says its status
-    on descriptor 3, which nobody reads here."""
-    return ["sh", "-c", 'exec sh "$@" 3>/dev/null', "sh", ROOT / "tools/start", ROOT / "target/bin/rpj", *images]
+def program(*words):
+    """The command that runs the program itself, without ./rpj: its words are the image to start from and the one to save, or none, and behind both of
+    them `stream`. It says its status on descriptor 3, which nobody reads here."""
+    return ["sh", "-c", 'exec sh "$@" 3>/dev/null', "sh", ROOT / "tools/start", ROOT / "target/bin/rpj", *words]

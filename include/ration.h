@@ -1,13 +1,13 @@
-/* The ration host on lent bytes: its functions, and every number of a record, an answer, a report, a journal and an image.
- * docs/HOST.md has the rules behind them, docs/STATE.md the layout of a state, docs/IMAGE.md that of an image, and
- * crates/ration/src/lib.rt the promises that are proved.
+/* The ration host on lent bytes: its functions, and every number of a record, an answer, a report, a journal, what is kept of one
+ * between its pieces, and an image. docs/HOST.md has the rules behind them, docs/STATE.md the layout of a state, docs/IMAGE.md that
+ * of an image, and crates/ration/src/lib.rt the promises that are proved.
  * `tools/archive DIR` writes DIR/libration.a, for `cc -Iinclude program.c DIR/libration.a`.
  *
  * The proofs assume of a caller what Rust's references do. For each pointer: it is not null, it stays good for the call, and it
- * leads to exactly as many bytes as its parameter says (a length may be 0, and its pointer is then still not null). No byte that a
- * function writes (a parameter without const) is part of another parameter, or used by another thread during the call, and no byte
- * that it reads changes meanwhile. Nothing is
- * assumed of the bytes themselves: any 4,754 bytes are a state, any bytes a record, a journal or an image, and each has its answer.
+ * leads to exactly as many bytes as its parameter says (a length may be 0, and its pointer is then still not null; a size_t is
+ * aligned). No byte that a function writes (a parameter without const) is part of another parameter, or used by another thread
+ * during the call, and no byte that it reads changes meanwhile. Nothing is assumed of the bytes themselves: any 4,754 bytes are a
+ * state, any 9 what is kept, any bytes a record, a journal, a piece of one or an image, and each has its answer.
  * No function keeps a pointer, allocates or fails. */
 #ifndef RATION_H
 #define RATION_H
@@ -44,6 +44,11 @@ enum {
 
     RATION_HEADER = 8,          /* a journal's header, RATION_HEADER_BYTES; its records follow, with nothing between */
     RATION_RECORD_LIMIT = 4096, /* the most whole records of a journal */
+
+    RATION_KEPT = 9,        /* what is kept from one piece of a journal to the next; ration_kept_size() answers it */
+    RATION_KEPT_HEADER = 0, /* how many bytes of the header were taken, 0 to 8; 255 once a piece was refused with 13 */
+    RATION_KEPT_BEGUN = 1,  /* how many bytes of a begun record are kept, 0 to 7: at the end of the input, those left over */
+    RATION_KEPT_BYTES = 2,  /* these bytes, and zeros behind them */
 
     RATION_IMAGE = 4759,         /* an image, of version 1; ration_image_size() answers it */
     RATION_IMAGE_MARK_AT = 0,    /* the letters RPS */
@@ -112,12 +117,12 @@ enum ration_pin {
     RATION_PIN_TABLE = 1 /* a table of the guest's addresses; it is empty */
 };
 
-/* The number of an answer or of a report, and what saving and loading answer. Checks run in this order, and the first that applies
- * is the answer; but loading checks 16 before 1. 1 to 12 are a record's, 1 and 13 to 15 a journal's, 1 and 16 an image's. A page is
- * shared from when two addresses lead to it at once until it is unpinned. */
+/* The number of an answer or of a report, and what feeding, saving and loading answer. Checks run in this order, and the first that
+ * applies is the answer; but loading checks 16 before 1. 1 to 12 are a record's, 1 and 13 to 15 a journal's, 1, 13 and 15 a piece's,
+ * 1 and 16 an image's. A page is shared from when two addresses lead to it at once until it is unpinned. */
 enum ration_number {
-    RATION_DONE = 0,                      /* the record was done, the journal was run, or the image was saved or loaded */
-    RATION_REFUSED_STATE = 1,             /* the state is not valid; of a record, a journal or an image */
+    RATION_DONE = 0,                      /* the record was done, the journal or the piece was run, or the image was saved or loaded */
+    RATION_REFUSED_STATE = 1,             /* the state is not valid; of a record, a journal, a piece of one or an image */
     RATION_REFUSED_RECORD = 2,            /* not 8 bytes, unknown kind or call, argument out of range, unused byte not 0 */
     RATION_REFUSED_MODE = 3,              /* a guest's action while the host has control, or the host's while a guest runs */
     RATION_REFUSED_CALL = 4,              /* the call is not exactly this one; chmod, switch: the guest has one; drop: it has none */
@@ -129,18 +134,19 @@ enum ration_number {
     RATION_REFUSED_PLACE_TAKEN = 10,      /* new_sm: the current table maps 7 already; pin: the guest has a page at this pa */
     RATION_REFUSED_NO_FREE_PAGE = 11,     /* pin: no page is free */
     RATION_REFUSED_IN_USE = 12,           /* unpin: the current table, a table with entries, or a page that some table maps */
-    RATION_REFUSED_HEADER = 13,           /* a journal's first 8 bytes are missing or different */
-    RATION_REFUSED_TOO_MANY_RECORDS = 14, /* a journal has more than 4,096 whole records */
-    RATION_REFUSED_ANSWER_BUFFER = 15,    /* the answer buffer has less than 8 bytes for each whole record */
+    RATION_REFUSED_HEADER = 13,           /* a journal's first 8 bytes are missing or different; of a piece, see ration_feed */
+    RATION_REFUSED_TOO_MANY_RECORDS = 14, /* a journal has more than 4,096 whole records; never of a piece */
+    RATION_REFUSED_ANSWER_BUFFER = 15,    /* the answer buffer has less than 8 bytes for each whole record, or each to be run */
     RATION_REFUSED_IMAGE = 16             /* mark, version or length is not an image's; saving: the buffer's length is not */
 };
 
-/* The bytes of a state, of an answer, of a report and of an image, as the archive has them. Where one is not the size above, header
- * and archive do not belong together, and nothing may be lent to the other functions. */
+/* The bytes of a state, of an answer, of a report, of an image and of what is kept, as the archive has them. Where one is not the size
+ * above, header and archive do not belong together, and nothing may be lent to the other functions. */
 size_t ration_size(void);
 size_t ration_answer_size(void);
 size_t ration_report_size(void);
 size_t ration_image_size(void);
+size_t ration_kept_size(void);
 
 /* Makes the state the fresh machine, whatever its bytes were. */
 void ration_fresh(uint8_t state[RATION_SIZE]);
@@ -160,6 +166,23 @@ void ration_step(uint8_t state[RATION_SIZE], const uint8_t *record, size_t lengt
  * rest of its report is zeros. */
 void ration_run(uint8_t state[RATION_SIZE], const uint8_t *journal, size_t length, uint8_t *answers, size_t room,
                 uint8_t report[RATION_REPORT]);
+
+/* Makes kept what it is before a journal's first piece, 9 zeros, whatever its bytes were. */
+void ration_begin(uint8_t kept[RATION_KEPT]);
+
+/* Runs what has arrived of a journal, of any length: piece, of length bytes, goes on where the bytes taken since ration_begin end,
+ * be that inside the header or a record. At most allowance records are run. last says that the input ends with this piece.
+ * Answers RATION_DONE, and says in *records how many records were run and in *bytes how many bytes of the piece were taken; the
+ * caller offers the others again, in front of what arrives later. Record n of this call, counted from 0, has its answer at bytes 8n
+ * to 8n + 7 of answers, which has room bytes; the rest of answers stays. Where no whole record is left to be run, all of the piece
+ * is taken, and bytes of a begun record are kept; otherwise it is taken up to the last record that was run, and its header bytes in
+ * any case. So with an allowance at least one byte of a piece is taken.
+ * Refused with the first that applies of RATION_REFUSED_STATE; RATION_REFUSED_HEADER, if a header byte in the piece is wrong, the
+ * input ends while the header is short, or a count in kept is out of range; and RATION_REFUSED_ANSWER_BUFFER, if room is less than
+ * RATION_ANSWER for each record to be run. *records and *bytes are then 0 and nothing else changes, but that RATION_REFUSED_HEADER
+ * sets byte RATION_KEPT_HEADER of kept to 255: a valid state is refused with it from then on, until ration_begin. */
+uint8_t ration_feed(uint8_t state[RATION_SIZE], uint8_t kept[RATION_KEPT], const uint8_t *piece, size_t length, size_t allowance,
+                    bool last, uint8_t *answers, size_t room, size_t *records, size_t *bytes);
 
 /* Writes the whole state to image, which has length bytes, and answers RATION_DONE; the state stays as it was. RATION_REFUSED_STATE
  * if the state is not valid, then RATION_REFUSED_IMAGE if length is not RATION_IMAGE: image is then as it was. Whoever keeps the image

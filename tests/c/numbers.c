@@ -1,5 +1,6 @@
-/* Holds every constant of include/ration.h to the machine: each kind is accepted once and each refusal given once, by records that are put
- * together and answers and reports that are read by the header's places. A line for each difference, and status 1. It is C and C++. */
+/* Holds every constant of include/ration.h to the machine, but for those of what is kept, which pieces.c has: each kind is accepted once and
+ * each refusal given once, by records that are put together and answers and reports that are read by the header's places. A line for each
+ * difference, and status 1. It is C and C++. */
 #include <stdio.h>
 #include <string.h>
 
@@ -70,6 +71,7 @@ static void sizes(void) {
     same("RATION_ANSWER", "ration_answer_size()", (uint32_t)ration_answer_size(), RATION_ANSWER);
     same("RATION_REPORT", "ration_report_size()", (uint32_t)ration_report_size(), RATION_REPORT);
     same("RATION_IMAGE", "ration_image_size()", (uint32_t)ration_image_size(), RATION_IMAGE);
+    same("RATION_KEPT", "ration_kept_size()", (uint32_t)ration_kept_size(), RATION_KEPT);
 }
 
 static void ranges(void) {

@@ -1,5 +1,5 @@
-/* Stands in for libration.a: one of its sizes is one byte more, that which RATION_OTHER names ("state", "answer", "report" or "image"). A
- * program that lends it a byte all the same is ended. */
+/* Stands in for libration.a: one of its sizes is one byte more, that which RATION_OTHER names ("state", "answer", "report", "image" or "kept").
+ * A program that lends it a byte all the same is ended. */
 #include <stdlib.h>
 #include <string.h>
 
@@ -24,6 +24,10 @@ size_t ration_report_size(void) {
 
 size_t ration_image_size(void) {
     return size_of("image", RATION_IMAGE);
+}
+
+size_t ration_kept_size(void) {
+    return size_of("kept", RATION_KEPT);
 }
 
 void ration_fresh(uint8_t state[RATION_SIZE]) {
@@ -59,5 +63,16 @@ uint8_t ration_save(const uint8_t state[RATION_SIZE], uint8_t *image, size_t len
 
 uint8_t ration_load(uint8_t state[RATION_SIZE], const uint8_t *image, size_t length) {
     (void)state, (void)image, (void)length;
+    abort();
+}
+
+void ration_begin(uint8_t kept[RATION_KEPT]) {
+    (void)kept;
+    abort();
+}
+
+uint8_t ration_feed(uint8_t state[RATION_SIZE], uint8_t kept[RATION_KEPT], const uint8_t *piece, size_t length, size_t allowance,
+                    bool last, uint8_t *answers, size_t room, size_t *records, size_t *bytes) {
+    (void)state, (void)kept, (void)piece, (void)length, (void)allowance, (void)last, (void)answers, (void)room, (void)records, (void)bytes;
     abort();
 }

@@ -43,7 +43,7 @@ impl Answer {
     }
 }
 
-/// Why a record, a journal or an image was refused. Checks run in this order, and the first that applies is the answer; but
+/// Why a record, a journal, a piece of one or an image was refused. Checks run in this order, and the first that applies is the answer; but
 /// [`Host::load`](crate::Host::load) checks 16 before 1.
 #[derive(Clone, Copy, Debug, PartialEq, Eq, Hash)]
 pub enum Refusal {
@@ -72,11 +72,11 @@ pub enum Refusal {
     NoFreePage,
     /// 12: the page is the current table, a table with entries, or mapped by some table.
     InUse,
-    /// 13: a journal's header is missing or different.
+    /// 13: a journal's header is missing or different; of a piece, what is kept may also be damaged.
     Header,
-    /// 14: a journal has more than 4,096 whole records.
+    /// 14: a journal has more than 4,096 whole records; never of a piece.
     TooManyRecords,
-    /// 15: the answer buffer has less than 8 bytes for each whole record.
+    /// 15: the answer buffer has less than 8 bytes for each whole record, of a piece for each record to be run.
     AnswerBuffer,
     /// 16: the bytes are no image: their mark, version or length is different.
     Image,

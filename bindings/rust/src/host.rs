@@ -1,58 +1,15 @@
 //! A host that owns its state, over the functions of `include/ration.h`.
 
 use crate::answers::REPORT;
-use crate::{Action, Answer, Refusal, Report, ANSWER};
+use crate::archive as c;
+use crate::{Action, Answer, Fed, Kept, Refusal, Report, ANSWER};
 
 /// The bytes of a state.
 pub const SIZE: usize = 4754;
 /// The bytes of an image.
 pub const IMAGE_SIZE: usize = 4759;
 
-mod c {
-    use super::{ANSWER, REPORT, SIZE};
-
-    extern "C" {
-        pub fn ration_size() -> usize;
-        pub fn ration_answer_size() -> usize;
-        pub fn ration_report_size() -> usize;
-        pub fn ration_image_size() -> usize;
-        pub fn ration_fresh(state: *mut [u8; SIZE]);
-        pub fn ration_valid(state: *const [u8; SIZE]) -> bool;
-        pub fn ration_free_pages(state: *const [u8; SIZE]) -> u32;
-        pub fn ration_step(
-            state: *mut [u8; SIZE],
-            record: *const u8,
-            length: usize,
-            answer: *mut [u8; ANSWER],
-        );
-        pub fn ration_run(
-            state: *mut [u8; SIZE],
-            journal: *const u8,
-            length: usize,
-            answers: *mut u8,
-            room: usize,
-            report: *mut [u8; REPORT],
-        );
-        pub fn ration_save(state: *const [u8; SIZE], image: *mut u8, length: usize) -> u8;
-        pub fn ration_load(state: *mut [u8; SIZE], image: *const u8, length: usize) -> u8;
-    }
-}
-
-/// Panics where the archive was built with other sizes than this package: it would write past what is lent to it.
-fn compare_sizes() {
-    // these lend nothing
-    let archive = unsafe {
-        [c::ration_size(), c::ration_answer_size(), c::ration_report_size(), c::ration_image_size()]
-    };
-    let package = [SIZE, ANSWER, REPORT, IMAGE_SIZE];
-    assert!(
-        archive == package,
-        "libration.a has {archive:?} bytes for a state, an answer, a report and an image, this package {package:?}: \
-         they do not belong together"
-    );
-}
-
-/// What saving and loading answer: a number, 0 for done.
+/// What feeding, saving and loading answer: a number, 0 for done.
 fn done(number: u8) -> Result<(), Refusal> {
     Refusal::from_number(number.into()).map_or(Ok(()), Err)
 }
@@ -73,7 +30,7 @@ impl Default for Host {
 impl Host {
     /// The one way to a host, but for a clone of one: so no byte is lent before the sizes were compared.
     fn of(bytes: Box<[u8; SIZE]>) -> Host {
-        compare_sizes();
+        c::compare_sizes();
         Host(bytes)
     }
 
@@ -140,6 +97,55 @@ impl Host {
             )
         };
         Report::from_bytes(report)
+    }
+
+    /// Runs what has arrived of a journal: the piece goes on where the bytes taken since [`Kept::begin`] end, be that inside the header
+    /// or a record. At most `allowance` records are run, and a journal may have any number of them; `last` says that the input ends
+    /// with this piece. The answers stand at the start of the buffer, in each call anew. What was not taken is to be offered again, in
+    /// front of what arrives later; with an allowance at least one byte of a piece is taken. [`Feeder`](crate::Feeder) does all this.
+    ///
+    /// Refused with [`Refusal::State`]; with [`Refusal::Header`] if a header byte is wrong, if the input ends while the header is
+    /// short, or if what is kept is damaged, and then again until [`Kept::begin`]; or with [`Refusal::AnswerBuffer`] if the buffer has
+    /// less than [`ANSWER`] bytes for each record to be run. Then neither state nor answers change.
+    ///
+    /// ```
+    /// use ration::{journal, Action, Answer, Fed, Host, Kept, Refusal, ANSWER};
+    ///
+    /// let (mut host, mut kept, mut answers) = (Host::fresh(), Kept::begin(), [0; ANSWER]);
+    /// let bytes = journal(&[Action::RetCtrl, Action::RetCtrl]);
+    /// // the header and three bytes of a record: nothing to run yet
+    /// assert_eq!(host.feed(&mut kept, &bytes[..11], 1, false, &mut answers), Ok(Fed { records: 0, bytes: 11 }));
+    /// // the rest, but one record at a time
+    /// assert_eq!(host.feed(&mut kept, &bytes[11..], 1, true, &mut answers), Ok(Fed { records: 1, bytes: 5 }));
+    /// assert_eq!(Answer::from_bytes(answers), Answer::Done(0));
+    /// assert_eq!(host.feed(&mut kept, &bytes[16..], 1, true, &mut answers), Ok(Fed { records: 1, bytes: 8 }));
+    /// assert_eq!(Answer::from_bytes(answers), Answer::Refused(Refusal::Mode));
+    /// ```
+    pub fn feed(
+        &mut self,
+        kept: &mut Kept,
+        piece: &[u8],
+        allowance: usize,
+        last: bool,
+        answers: &mut [u8],
+    ) -> Result<Fed, Refusal> {
+        let (length, room) = (piece.len(), answers.len());
+        let (mut records, mut bytes) = (0, 0);
+        done(unsafe {
+            c::ration_feed(
+                &mut *self.0,
+                kept.bytes_mut(),
+                piece.as_ptr(),
+                length,
+                allowance,
+                last,
+                answers.as_mut_ptr(),
+                room,
+                &mut records,
+                &mut bytes,
+            )
+        })?;
+        Ok(Fed { records, bytes })
     }
 
     /// The whole state as an image, to be kept in a file and handed to [`Host::load`] later (`docs/IMAGE.md` has its layout). Equal

@@ -2,22 +2,26 @@
 
 use std::panic::catch_unwind;
 
-use ration::{Host, SIZE};
+use ration::{Host, Kept, SIZE};
 
 #[test]
 #[ignore = "needs the archive of tests/c/other_sizes.c"]
-fn no_host_is_made() {
+fn nothing_is_made() {
     let other = std::env::var("RATION_OTHER").expect("RATION_OTHER says which size differs");
     let archive = match other.as_str() {
-        "state" => "[4755, 8, 20, 4759]",
-        "answer" => "[4754, 9, 20, 4759]",
-        "report" => "[4754, 8, 21, 4759]",
-        "image" => "[4754, 8, 20, 4760]",
+        "state" => "[4755, 8, 20, 4759, 9]",
+        "answer" => "[4754, 9, 20, 4759, 9]",
+        "report" => "[4754, 8, 21, 4759, 9]",
+        "image" => "[4754, 8, 20, 4760, 9]",
+        "kept" => "[4754, 8, 20, 4759, 10]",
         _ => panic!("RATION_OTHER={other}"),
     };
-    for make in [Host::fresh, Host::default, || Host::from_bytes([0; SIZE])] {
-        let panic = catch_unwind(make).expect_err("a host was made");
+    let hosts = [Host::fresh, Host::default, || Host::from_bytes([0; SIZE])]
+        .map(|make| catch_unwind(make).map(|_| ()));
+    let kept = [Kept::begin, Kept::default].map(|make| catch_unwind(make).map(|_| ()));
+    for made in hosts.into_iter().chain(kept) {
+        let panic = made.expect_err("a byte may be lent");
         let said = panic.downcast_ref::<String>().expect("a message");
-        assert!(said.contains(archive) && said.contains("[4754, 8, 20, 4759]"), "{said}");
+        assert!(said.contains(archive) && said.contains("[4754, 8, 20, 4759, 9]"), "{said}");
     }
 }

@@ -1,5 +1,5 @@
--- After an image was loaded: demand 3 from what the image has, of one journal, of journals one after another and of records; and a run, a save, a load
--- and a run are one run.
+-- After an image was loaded: demand 3 from what the image has, of one journal, of journals one after another, of a journal in pieces and of records;
+-- and a run, a save, a load and a run are one run.
 -- Assumes nothing.
 use mathlib.Core.Path.{_≡_, sym, ap, subst, _∙_}
 use mathlib.Core.List.{List, [], _++_}
@@ -17,11 +17,14 @@ use Rattle.model.specs.Step as model
 use Rattle.model.specs.Run.{Ran, run}
 use Rattle.model.specs.Journal.{taken, recordAt, recordsOf, written, played, journal, After}
 use Rattle.model.specs.Image.{imageBytes, held, Read, Written}
+use Rattle.model.specs.Pieces.{beginning}
 use Rattle.model.proofs.Bytes.{records-bytes}
 use Rattle.model.proofs.Run.{run-append, run-length}
+use Rattle.model.proofs.Journal.{written-more, length-written}
 use Rattle.model.proofs.Valid.{valid⇔}
 use Rattle.model.proofs.Saving.{load-valid, load-done, save-valid}
 use Rattle.keeps.proofs.Keeps.{run-keeps}
+use Rattle.stream.specs.Calls.{Call, Calls, takenBy, answersBy}
 use Rattle.history.specs.Agrees.{bookOf}
 use Rattle.history.proofs.Drawn.{drawn-agrees}
 use Rattle.host.specs.View.{view, Whole}
@@ -29,7 +32,6 @@ use Rattle.image.specs.declared.Answer.{Answer}
 use Rattle.image.specs.declared.Answer.the-variants as code
 use Rattle.image.specs.Promises.{answerTo, Loads, Saves}
 use Rattle.image.proofs.Answers.{done-is, saved-loads-bytes}
-use Rattle.steps.proofs.Storing.{length-written, written-more}
 use Rattle.journal.specs.declared.Report.{Report}
 use Rattle.journal.specs.declared.Verdict.the-variants.{Done}
 use Rattle.journal.specs.Promises.{Runs}
@@ -41,6 +43,7 @@ use Rattle.steps.specs.declared.Ran.the-variants.{Took}
 use Rattle.steps.specs.Parts as parts
 use Rattle.guarantee.proofs.Parts.{part-guaranteed}
 use Rattle.guarantee.proofs.Journals.{guaranteed, all-guaranteed}
+use Rattle.guarantee.proofs.Pieces.{fed-guaranteed}
 
 -- ---- demand 3 after a load
 
@@ -67,6 +70,14 @@ pub loaded-all : (x y z i : List ℕ) (xs : List Turn) → Loads (view x) i code
 loaded-all x y z i xs l w p =
     all-guaranteed (image-valid l) (drawn-agrees (image-valid l)) xs w
     (subst (λ (s : State). Turns s xs (view z)) (image-state l) p)
+
+-- a journal of any bytes, fed in any pieces
+pub loaded-fed : (x y z i l : List ℕ) (xs : List Call) → Loads (view x) i code.Done (view y) → Each (λ c. Bytes (c .piece)) xs
+    → Calls (view y) beginning xs (view z) l
+    → Guarantee (bookOf (held i)) (held i) [] (takenBy xs) headerBytes (taken (takenBy xs)) (view z) (answersBy xs)
+loaded-fed x y z i l xs p w c =
+    fed-guaranteed (image-valid p) (drawn-agrees (image-valid p)) xs w l
+    (subst (λ (s : State). Calls s beginning xs (view z) l) (image-state p) c)
 
 -- records of any bytes, from any place on
 pub loaded-part : (x y z i j : List ℕ) (start : ℕ) (buffer c : List ℕ) (n k : ℕ) → Loads (view x) i code.Done (view y) → Bytes j

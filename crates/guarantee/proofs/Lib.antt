@@ -4,4 +4,5 @@ pub mod Parts
 pub mod Journals
 pub mod Folds
 pub mod Resumes
+pub mod Pieces
 pub mod Images

@@ -16,8 +16,7 @@ use Rattle.model.specs.Step.{Answer, step}
 use Rattle.model.specs.Run.{Ran, run}
 use Rattle.model.specs.Journal.{taken, recordAt, recordsOf, hasHeader, written, journalRefusal, ran, reported, played, journal, After}
 use Rattle.model.proofs.Run.{andThen, run-append, run-length}
-use Rattle.model.proofs.Journal.{either}
-use Rattle.steps.proofs.Storing.{length-written, written-more}
+use Rattle.model.proofs.Journal.{either, written-more, length-written}
 use Rattle.journal.specs.declared.Report.{Report}
 use Rattle.journal.specs.declared.Verdict.{Verdict}
 use Rattle.journal.specs.declared.Verdict.the-variants.{Done}

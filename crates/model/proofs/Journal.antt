@@ -1,4 +1,4 @@
--- A journal's report: accepted is the zeros among the answers, accepted and refused make taken.
+-- A journal's answers, written one after another; and its report: accepted is the zeros among the answers, accepted and refused make taken.
 -- Assumes nothing.
 use mathlib.Core.Path.{_≡_, refl, sym, ap, _∙_}
 use mathlib.Core.Bool.{Bool, true, false}
@@ -36,6 +36,19 @@ either P s j b f g = go (eqb (journalRefusal s j b) 0) refl
 -- the answers to a journal's records: as many as it takes
 answered : (s : State) (j : List ℕ) → length (run s (recordsOf j) .answers) ≡ taken j
 answered s j = run-length step s (recordsOf j) ∙ length-listOf (taken j) (recordAt j)
+
+-- ---- answers one after another
+
+pub written-more : (xs ys : List Answer) → written (xs ++ ys) ≡ written xs ++ written ys
+written-more [] ys = refl
+written-more (x ∷ xs) ys =
+    ap (λ (l : List ℕ). answerBytesOf x ++ l) (written-more xs ys) ∙ sym (append-assoc (answerBytesOf x) (written xs) (written ys))
+
+pub length-written : (xs : List Answer) → length (written xs) ≡ answerBytes * length xs
+length-written [] = refl
+length-written (x ∷ xs) = let e = length-written xs in omega arith
+
+-- ---- the report
 
 in-all : (xs : List Answer) → acceptedIn xs + refusedIn xs ≡ length xs
 in-all [] = refl

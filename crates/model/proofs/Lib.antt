@@ -10,3 +10,5 @@ pub mod Bytes
 pub mod Fields
 pub mod Image
 pub mod Saving
+pub mod Pieces
+pub mod PieceSamples

@@ -30,3 +30,5 @@ pub mod Damage
 pub mod Damaged
 pub mod Fields
 pub mod Image
+pub mod Pieces
+pub mod PieceSamples

@@ -1,7 +1,7 @@
 -- docs/HOST.md, "Sizes and state": each size by a name of its own. No other file spells one.
 -- Assumes nothing.
 use mathlib.Core.Bool.{Bool, _&&_, _||_, not}
-use Prim.Native.Nat.{ℕ, _+_, _*_, _/_, _%_, _^_}
+use Prim.Native.Nat.{ℕ, _+_, _*_, _-_, _/_, _%_, _^_}
 use lib.Dec.{leb, eqb}
 
 abbrev pub guests : ℕ
@@ -101,6 +101,16 @@ headerBytes = 8
 
 abbrev pub recordLimit : ℕ
 recordLimit = 4096
+
+-- what is kept from one piece of a journal to the next: two counts, and the most bytes that a begun record has
+abbrev pub countBytes : ℕ
+countBytes = 2
+
+abbrev pub begunMost : ℕ
+begunMost = recordBytes - 1
+
+abbrev pub keptBytes : ℕ
+keptBytes = countBytes + begunMost
 
 -- bytes of an image's mark, and of all that stands before its fields: mark and version
 abbrev pub markBytes : ℕ

@@ -3,3 +3,7 @@ pub mod Room
 pub mod Answers
 pub mod Long
 pub mod Whole
+pub mod Calls
+pub mod Streaming
+pub mod WholeCalls
+pub mod Joined

@@ -25,7 +25,7 @@ use Rattle.output.specs.declared.Printed.{Printed}
 use Rattle.output.specs.Promises.{Prints, PrintsLoad}
 use Rattle.output.proofs.Room.{form-passes}
 
-number-long : (n x k : ℕ) → n < 10 ^ suc k → length (numberThen n x) ≤ suc k + 1
+pub number-long : (n x k : ℕ) → n < 10 ^ suc k → length (numberThen n x) ≤ suc k + 1
 number-long n x k h = omega (arith, length-append (decimalOf n) (x ∷ []), length-decimal n k h)
 
 -- 4, 3 and 10 digits, two spaces and the line's end
@@ -43,11 +43,11 @@ lines-long (suc n) c s h =
     let l = line-long (n + 1) (numberAt c n) (valueAt c n) (omega arith) (omega (arith, s i)) (omega (arith, s k, s (k + 1), s (k + 2), s (k + 3))) in
     omega (arith, length-append (recordLines n c) (recordLine (n + 1) (numberAt c n) (valueAt c n)))
 
-cut-long : (n : ℕ) → n < 10 ^ 1 → length (cutLine n) ≤ 6
+pub cut-long : (n : ℕ) → n < 10 ^ 1 → length (cutLine n) ≤ 6
 cut-long n h =
     pick-both (λ l. length l ≤ 6) (eqb n 0) (λ e. omega arith) (λ e. omega (arith, length-append cutWord (numberThen n lineEnd), number-long n lineEnd 0 h))
 
-refused-long : (n k : ℕ) → n < 10 ^ suc k → length (refusedLine n) ≤ suc k + 9
+pub refused-long : (n k : ℕ) → n < 10 ^ suc k → length (refusedLine n) ≤ suc k + 9
 refused-long n k h = omega (arith, length-append refusedWord (numberThen n lineEnd), number-long n lineEnd k h)
 
 done-long : (a r : ℕ) → a < 10 ^ 4 → r < 10 ^ 4 → length (doneLine a r) ≤ 23
@@ -93,7 +93,7 @@ load-most notValid = refused-long 1 1 (omega arith)
 load-most notImage = refused-long 16 1 (omega arith)
 
 -- what was typed, where the text has its room
-whole-text : (d xs : List ℕ) (n : ℕ) (e : List ℕ) → length xs ≤ length d → page e n ≡ typedAll (page d 0) xs
+pub whole-text : (d xs : List ℕ) (n : ℕ) (e : List ℕ) → length xs ≤ length d → page e n ≡ typedAll (page d 0) xs
     → (n ≡ length xs) × (e ≡ xs ++ drop (length xs) d)
 whole-text d xs n e h f =
     let q = f ∙ typed-fits d xs h in

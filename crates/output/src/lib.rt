@@ -1,7 +1,12 @@
 // What the program prints: a journal run on a host, and its answers and its report as lines of text; an image loaded, and its refusal.
+mod stream; // stream.rt: a journal that arrives in pieces
+
 use host::Host;
 use journal::Report;
 use journal::Verdict;
+pub use stream::Streamed;
+pub use stream::Told;
+pub use stream::feed;
 ghost use mathlib.Core.Path.{_≡_};
 ghost use Prim.Native.Nat.{_+_, _*_, _<_, _≤_};
 ghost use lib.ListN.{length};

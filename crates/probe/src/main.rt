@@ -2,13 +2,16 @@
 use host::Host;
 use host::SIZE;
 use journal::Verdict;
+use pieces::Fed;
+use pieces::KEPT;
+use pieces::Kept;
 use steps::Answer;
 
 const IN: i32 = 0;
 
 const OUT: i32 = 1;
 
-// A task's first bytes: its kind, a zero, how many bytes its journal, record or image has, how many its buffer has.
+// A task's first bytes: its kind, whether the input ends or a zero, how many bytes its journal, record, image or piece has, how many its buffer has.
 const HEAD: usize = 6;
 
 const FRESH: u8 = 0;
@@ -22,6 +25,16 @@ const OPEN: u8 = 3;
 const LOAD: u8 = 4;
 
 const SAVE: u8 = 5;
+
+const FEED: u8 = 6;
+
+const BEGIN: u8 = 7;
+
+// The second byte of a task: the input ends with its piece.
+const LAST: u8 = 1;
+
+// Stands for the largest allowance that there is.
+const NO_LIMIT: usize = 65535;
 
 const MOST: usize = 65536;
 
@@ -51,6 +64,26 @@ fn receive_host(h: &mut Host) {
 
 fn send_host(h: &Host) {
     io::write_all(OUT, h);
+}
+
+fn receive_kept(k: &mut Kept) {
+    io::read_full(IN, k);
+}
+
+fn send_kept(k: &Kept) {
+    io::write_all(OUT, k);
+}
+
+// 16 bits, low byte first
+fn allowed(a: u8, b: u8) -> usize {
+    let n = a as usize + 256 * b as usize;
+    if n == NO_LIMIT { usize::MAX } else { n }
+}
+
+fn receive_allowance() -> usize {
+    let mut bytes = [0u8; 2];
+    io::read_full(IN, &mut bytes);
+    allowed(bytes[0], bytes[1])
 }
 
 fn receive_buffer(b: &mut Buffer, n: isize) {
@@ -95,6 +128,13 @@ fn send_answer(a: Answer) {
             io::write_all(OUT, &[n, 0, 0, 0, 0]);
         }
     }
+}
+
+// The number, the records that were run and the bytes that were taken.
+fn send_fed(f: Fed) {
+    io::write_all(OUT, &[f.number]);
+    send_number(f.records);
+    send_number(f.bytes);
 }
 
 fn bit(b: bool) -> u8 {
@@ -223,6 +263,69 @@ fn save_image(room: isize) {
     send_host(&h);
 }
 
+fn feed_parts(
+    h: &mut Host,
+    k: &mut Kept,
+    piece: &[u8],
+    allowance: usize,
+    last: bool,
+    out: &mut [u8],
+    length: isize,
+    room: isize,
+) -> Fed {
+    let n = io::count(length, piece);
+    let m = io::count(room, out);
+    pieces::feed(h, k, &piece[..n], allowance, last, &mut out[..m])
+}
+
+fn feed_buffers(
+    h: &mut Host,
+    k: &mut Kept,
+    piece: &Buffer,
+    allowance: usize,
+    last: bool,
+    out: &mut Buffer,
+    length: isize,
+    room: isize,
+) -> Fed {
+    feed_parts(h, k, piece, allowance, last, out, length, room)
+}
+
+// An allowance, a machine, what is kept, a piece, an answer buffer with what it holds; then the answer, what is kept, buffer and machine.
+fn feed(last: bool, length: isize, room: isize) {
+    let mut h: Host = [0; SIZE];
+    let mut k: Kept = [0; KEPT];
+    let mut piece: Buffer = [0; MOST];
+    let mut out: Buffer = [0; MOST];
+    let allowance = receive_allowance();
+    receive_host(&mut h);
+    receive_kept(&mut k);
+    receive_buffer(&mut piece, length);
+    receive_buffer(&mut out, room);
+    let f = feed_buffers(
+        &mut h,
+        &mut k,
+        &piece,
+        allowance,
+        last,
+        &mut out,
+        length,
+        room,
+    );
+    send_fed(f);
+    send_kept(&k);
+    send_buffer(&out, room);
+    send_host(&h);
+}
+
+// What is kept, then what is kept at the beginning.
+fn begin() {
+    let mut k: Kept = [0; KEPT];
+    receive_kept(&mut k);
+    pieces::begin(&mut k);
+    send_kept(&k);
+}
+
 // False at the end of the input.
 fn task() -> bool {
     let mut head = [0u8; HEAD];
@@ -239,6 +342,8 @@ fn task() -> bool {
         OPEN => read_image(false, length),
         LOAD => read_image(true, length),
         SAVE => save_image(room),
+        FEED => feed(head[1] == LAST, length, room),
+        BEGIN => begin(),
         _ => return false,
     }
     true

@@ -1,12 +1,14 @@
 -- What the exported functions promise, byte by byte, in the terms of the model.
 -- Assumes nothing.
 use mathlib.Core.Path.{_≡_}
+use mathlib.Core.Bool.{Bool}
 use mathlib.Core.List.{List, _++_}
 use Prim.Native.Nat.{ℕ, _*_}
 use Rattle.model.specs.State.{State}
 use Rattle.model.specs.Records.{wordBytes}
 use Rattle.model.specs.Step.{step}
 use Rattle.model.specs.Image.{imageNumber, loaded, saved}
+use Rattle.model.specs.Pieces.{feed}
 use Rattle.model.specs.Journal.{Verdict, Report, verdictNumber, reportOf, answerBytesOf, journal}
 
 -- the bytes of a number of 32 bits, and of a report: the verdict's number, taken, accepted, refused, left over
@@ -43,3 +45,13 @@ pub record SavesBytes (s : State) (b : List ℕ) (n : ℕ) (c : List ℕ) : Type
 pub record LoadsBytes (s : State) (i : List ℕ) (n : ℕ) (t : State) : Type 0 where
   pub number : n ≡ imageNumber (loaded s i .answer)
   pub state : t ≡ loaded s i .state
+
+-- a piece of a journal on state s, with what is kept, an allowance, whether the input ends, and the answer buffer b: the number n, state t, what is kept
+-- after it, l, the answers c, and how many records it ran and how many bytes it took
+pub record FeedsBytes (s : State) (k piece : List ℕ) (allowance : ℕ) (last : Bool) (b : List ℕ) (n : ℕ) (t : State) (l c : List ℕ) (ran took : ℕ) : Type 0 where
+  pub number : n ≡ feed s k piece allowance last b .fed .number
+  pub state : t ≡ feed s k piece allowance last b .state
+  pub kept : l ≡ feed s k piece allowance last b .kept
+  pub answers : c ≡ feed s k piece allowance last b .buffer
+  pub records : ran ≡ feed s k piece allowance last b .fed .records
+  pub bytes : took ≡ feed s k piece allowance last b .fed .bytes

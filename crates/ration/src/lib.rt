@@ -3,17 +3,19 @@
 mod report; // report.rt: the bytes of a report
 
 use host::Host;
+use pieces::Kept;
 use report::REPORT;
 use report::put_report;
 ghost use mathlib.Core.Path.{_≡_};
 ghost use Rattle.laws.specs.Search.{countBelow};
 ghost use Rattle.laws.specs.Bits.{marks};
-ghost use Rattle.model.specs.Sizes.{pages, answerBytes};
+ghost use Rattle.model.specs.Sizes.{pages, answerBytes, keptBytes};
 ghost use Rattle.model.specs.Fresh.{fresh};
 ghost use Rattle.model.specs.Valid.{valid?};
 ghost use Rattle.model.specs.Image.{imageBytes};
+ghost use Rattle.model.specs.Pieces.{beginning};
 ghost use Rattle.host.specs.View.{bytes as stateBytes, view};
-ghost use Rattle.ration.specs.Promises.{reportSize, StepsBytes, RunsBytes, LoadsBytes, SavesBytes};
+ghost use Rattle.ration.specs.Promises.{reportSize, StepsBytes, RunsBytes, LoadsBytes, SavesBytes, FeedsBytes};
 
 // The bytes of a state.
 #[no_mangle]
@@ -45,6 +47,14 @@ pub extern "C" fn ration_image_size() -> usize
     ensures { λ r. ⌜ r ≡ imageBytes ⌝ }
 {
     image::SIZE
+}
+
+// The bytes that are kept from one piece of a journal to the next.
+#[no_mangle]
+pub extern "C" fn ration_kept_size() -> usize
+    ensures { λ r. ⌜ r ≡ keptBytes ⌝ }
+{
+    pieces::KEPT
 }
 
 // The fresh machine, whatever the bytes were.
@@ -110,4 +120,32 @@ pub extern "C" fn ration_load(h: &mut Host, image: &[u8]) -> u8
 {
     let loaded = image::load(h, image);
     image::number(loaded)
+}
+
+// No byte of a journal was taken yet, whatever was kept.
+#[no_mangle]
+pub extern "C" fn ration_begin(kept: &mut Kept)
+    ensures { λ _. ⌜ now (kept .exit) ≡ beginning ⌝ }
+{
+    pieces::begin(kept);
+}
+
+// A piece of a journal, run as far as it is allowed, or refused: the number, and how many records it ran and bytes it took, 0 where it is refused.
+#[no_mangle]
+pub extern "C" fn ration_feed(
+    h: &mut Host,
+    kept: &mut Kept,
+    piece: &[u8],
+    allowance: usize,
+    last: bool,
+    answers: &mut [u8],
+    records: &mut usize,
+    bytes: &mut usize,
+) -> u8
+    ensures { λ n. ⌜ FeedsBytes (view (now (h .entry))) (now (kept .entry)) (now (piece .entry)) allowance last (now (answers .entry)) n (view (now (h .exit))) (now (kept .exit)) (now (answers .exit)) (now (records .exit)) (now (bytes .exit)) ⌝ }
+{
+    let fed = pieces::feed(h, kept, piece, allowance, last, answers);
+    *records = fed.records;
+    *bytes = fed.bytes;
+    fed.number
 }

@@ -1,5 +1,5 @@
 // The program's files: standard input, the image that it starts from, and the one that it saves. ./rpj names the images by two words, of which an empty
-// one stands for no image.
+// one stands for no image, and says by a third that the input is run as it arrives.
 use host::Host;
 ghost use mathlib.Core.Path.{_≡_};
 ghost use Prim.Native.Nat.{min};
@@ -9,6 +9,8 @@ ghost use Rattle.io.specs.Counts.{Counts};
 const FROM: usize = 1;
 
 const TO: usize = 2;
+
+const STREAM: usize = 3;
 
 // One byte more than an image has: a longer one is refused alike.
 pub(crate) const IMAGE: usize = image::SIZE + 1;
@@ -20,6 +22,11 @@ pub(crate) const ABSENT: usize = usize::MAX - 1;
 
 // A name, and .new behind it.
 const BESIDE: usize = libc::PATH_MAX + 4;
+
+pub(crate) fn is_streamed() -> bool {
+    let mut word = io::buffer();
+    os::arg(STREAM, &mut word) > 0
+}
 
 // ---- reading
 

@@ -1,13 +1,15 @@
 // The program: a journal from standard input, on the fresh machine or on the state of an image, its output to standard output, and the state after it
-// to another image. No contract says what is read or written, so this file and files.rt are to be read: they hand what they read to `output::load` and
-// `output::run`, and write the text and say the status that these answer. A Rattle program has no exit status; it says that of
+// to another image. No contract says what is read or written, so this file, files.rt and stream.rt are to be read: they hand what they read to
+// `output::load`, and to `output::run` or `output::feed`, and write the text and say the status that these answer. A Rattle program has no exit status; it says that of
 // docs/HOST.md, "Journal and program", on a descriptor of its own, which ./rpj reads.
-mod files; // files.rt: the images that ./rpj names, and reading
+mod files; // files.rt: the words of ./rpj, the images that it names, and reading
+mod stream; // stream.rt: a journal that is run as it arrives
 
 use files::ABSENT;
 use files::FAILED;
 use files::IMAGE;
 use files::at_most;
+use files::is_streamed;
 use files::read_all;
 use files::read_image;
 use files::save_image;
@@ -15,6 +17,8 @@ use host::Host;
 use libc::STDERR_FILENO;
 use libc::STDIN_FILENO;
 use libc::STDOUT_FILENO;
+ghost use mathlib.Core.Path.{_≡_};
+ghost use Rattle.output.specs.Output.{ranStatus};
 
 const STATUS_FILENO: i32 = 3;
 
@@ -31,13 +35,17 @@ const REFUSAL: usize = 11;
 
 const RAN: u8 = output::RAN;
 
-fn fail(why: &[u8]) -> u8 {
+fn fail(why: &[u8]) -> u8
+    ensures { λ r. ⌜ (r ≡ ranStatus → ⊥) ⌝ }
+{
     io::write_all(STDERR_FILENO, why);
     b'2'
 }
 
 // The text, and the status that goes with it.
-fn put(text: &[u8], status: u8) -> u8 {
+fn put(text: &[u8], status: u8) -> u8
+    ensures { λ r. ⌜ (r ≡ ranStatus → status ≡ ranStatus) ⌝ }
+{
     if !io::write_all(STDOUT_FILENO, text) {
         return fail(b"rpj: the output cannot be written\n");
     }
@@ -74,24 +82,45 @@ fn save(h: &Host) -> u8 {
     RAN
 }
 
-// All is read before anything is printed, and an image is saved once all is printed.
+// All is read before anything is printed.
+fn run_whole(h: &mut Host, image: &[u8], from: usize) -> u8 {
+    let mut input = [0u8; INPUT];
+    let got = read_all(STDIN_FILENO, &mut input);
+    if got == FAILED {
+        return fail(b"rpj: the input cannot be read\n");
+    }
+    let started = start(h, image, from);
+    if started != RAN {
+        return started;
+    }
+    run(h, &input, got)
+}
+
+// The image is judged before anything is read.
+fn run_streamed(h: &mut Host, image: &[u8], from: usize) -> u8 {
+    let started = start(h, image, from);
+    if started != RAN {
+        return started;
+    }
+    stream::run(h)
+}
+
+fn run_either(h: &mut Host, image: &[u8], from: usize) -> u8 {
+    if is_streamed() {
+        return run_streamed(h, image, from);
+    }
+    run_whole(h, image, from)
+}
+
+// An image is saved once all is printed.
 fn whole() -> u8 {
     let mut image = [0u8; IMAGE];
     let from = read_image(&mut image);
     if from == FAILED {
         return fail(b"rpj: the image cannot be read\n");
     }
-    let mut input = [0u8; INPUT];
-    let got = read_all(STDIN_FILENO, &mut input);
-    if got == FAILED {
-        return fail(b"rpj: the input cannot be read\n");
-    }
     let mut h: Host = [0; host::SIZE];
-    let started = start(&mut h, &image, from);
-    if started != RAN {
-        return started;
-    }
-    let ran = run(&mut h, &input, got);
+    let ran = run_either(&mut h, &image, from);
     if ran != RAN {
         return ran;
     }

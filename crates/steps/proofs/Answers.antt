@@ -14,7 +14,7 @@ use Rattle.steps.specs.declared.Answer.{Answer}
 use Rattle.steps.specs.declared.Answer.the-variants.{Refused}
 use Rattle.steps.specs.declared.Ran.{Ran}
 use Rattle.steps.specs.Promises.{answerTo, Steps}
-use Rattle.steps.specs.Parts.{Runs}
+use Rattle.steps.specs.Parts.{Runs, RunsMost}
 
 pub one-step : (s : State) (l : List ℕ) {a b : Answer} {x y : List ℕ} → Whole x → Whole y → Steps s l a (view x) → Steps s l b (view y)
     → (a ≡ b) × (x ≡ y)
@@ -24,6 +24,15 @@ pub one-run : (s : State) (j : List ℕ) (start : ℕ) (b : List ℕ) {r q : Ran
     → Runs s j start b r (view x) c → Runs s j start b q (view y) d
     → (r ≡ q) × (x ≡ y) × (c ≡ d)
 one-run s j start b {x = x} {y = y} h k p q = (
+  p .result ∙ sym (q .result),
+  view-inj x y h k (p .state ∙ sym (q .state)),
+  p .buffer ∙ sym (q .buffer),
+)
+
+pub one-most : (n : ℕ) (s : State) (first j : List ℕ) (start : ℕ) (b : List ℕ) {r q : Ran} {x y c d : List ℕ} → Whole x → Whole y
+    → RunsMost n s first j start b r (view x) c → RunsMost n s first j start b q (view y) d
+    → (r ≡ q) × (x ≡ y) × (c ≡ d)
+one-most n s first j start b {x = x} {y = y} h k p q = (
   p .result ∙ sym (q .result),
   view-inj x y h k (p .state ∙ sym (q .state)),
   p .buffer ∙ sym (q .buffer),

@@ -75,7 +75,7 @@ turned s j p b i m e {a} {k} {t} {c} g w =
       buffer = w .buffer ∙ ap (answerAt b i) d;
     }
 
-counts-most : (x : Answer) → counts x ≤ 1
+pub counts-most : (x : Answer) → counts x ≤ 1
 counts-most x = pick-both (λ (k : ℕ). k ≤ 1) (eqb (numberOf x) 0) (λ e. omega arith) (λ e. omega arith)
 
 pub turned-most : {s : State} {j : List ℕ} {p : ℕ} {b : List ℕ} {i k : ℕ} {t : State} {c : List ℕ} → Turns s j p b i k t c → k ≤ 1
@@ -151,14 +151,15 @@ run-judged {s} v (r ∷ rs) b =
     after : Outcome → Ran → Ran
     after o t = record { answers = o .answer ∷ t .answers; state = t .state }
 
+pub run-as-judged : (s : State) → valid? s ≡ true → (rs : List (List ℕ)) → Each Bytes rs → runBy judged s rs ≡ run s rs
+run-as-judged s e rs y = let v = valid⇔ s .0 e in run-judged v rs y ∙ sym (run-judges v rs y)
+
 module _ (s : State) (j : List ℕ) (start : ℕ) (b : List ℕ) (n : ℕ) where
   first-played : valid? s ≡ true → Bytes j → {k : ℕ} {t : State} {c : List ℕ} → Plays s j start n b k t c
       → RunsFirst n s j start b (Took n k) t c
   first-played e w p =
-      let v = valid⇔ s .0 e in
       let rs = recordsFrom j start n in
-      let y = recordsFrom-bytes j w start n in
-      let r : runBy judged s rs ≡ run s rs = run-judged v rs y ∙ sym (run-judges v rs y) in
+      let r : runBy judged s rs ≡ run s rs = run-as-judged s e rs (recordsFrom-bytes j w start n) in
       record {
         result = ap (Took n) (p .counted ∙ ap (λ (x : Ran). acceptedIn (x .answers)) r) ∙ sym (pick-yes (tookOf (run s rs) n) (Refused 1) e);
         state = p .state ∙ ap (λ (x : Ran). x .state) r ∙ sym (pick-yes (run s rs .state) s e);

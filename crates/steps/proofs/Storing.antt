@@ -1,7 +1,7 @@
 -- Answers stored one after another.
 -- Assumes nothing.
-use mathlib.Core.Path.{_≡_, refl, sym, ap, _∙_}
-use mathlib.Core.List.{List, [], _∷_, _++_, append-assoc, append-nil}
+use mathlib.Core.Path.{_≡_, sym, ap, _∙_}
+use mathlib.Core.List.{List, [], _∷_, _++_, append-nil}
 use Prim.Native.Nat.{ℕ, suc, _+_, _*_, _/_, _%_, _^_, _≤_}
 use native.Mathlib.Omega.{arith}
 use lib.ListN.{length, drop, set, length-append, length-drop, length-set, drop-of-length-le}
@@ -10,6 +10,7 @@ use Rattle.model.specs.Sizes.{answerBytes, answerValueAt, byteBound}
 use Rattle.model.specs.Records.{wordBytes}
 use Rattle.model.specs.Step.{Answer}
 use Rattle.model.specs.Journal.{answerBytesOf, written, pasted, acceptedIn}
+use Rattle.model.proofs.Journal.{written-more, length-written}
 use Rattle.steps.specs.Turns.{answerAt, counts}
 
 -- ---- the bytes of an answer, one after another
@@ -79,15 +80,6 @@ stored-whole b x h =
     ∙ append-nil (answerBytesOf x)
 
 -- ---- answers one after another
-
-pub written-more : (xs ys : List Answer) → written (xs ++ ys) ≡ written xs ++ written ys
-written-more [] ys = refl
-written-more (x ∷ xs) ys =
-    ap (λ (l : List ℕ). answerBytesOf x ++ l) (written-more xs ys) ∙ sym (append-assoc (answerBytesOf x) (written xs) (written ys))
-
-pub length-written : (xs : List Answer) → length (written xs) ≡ answerBytes * length xs
-length-written [] = refl
-length-written (x ∷ xs) = let e = length-written xs in omega arith
 
 pub accepted-more : (xs : List Answer) (x : Answer) → acceptedIn (xs ++ x ∷ []) ≡ acceptedIn xs + counts x
 accepted-more [] x = omega arith

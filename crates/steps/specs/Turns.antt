@@ -15,7 +15,7 @@ use Rattle.model.specs.Run.{runBy}
 use Rattle.steps.specs.declared.Answer as code
 use Rattle.steps.specs.declared.Answer.the-variants.{Done, Refused}
 use Rattle.steps.specs.Acting.{judged}
-use Rattle.steps.specs.Parts.{recordsFrom}
+use Rattle.steps.specs.Parts.{recordsFrom, joinedRecords}
 
 -- code's answers as the model's
 abbrev pub answerFrom : code.Answer → Answer
@@ -46,3 +46,15 @@ pub record Plays (s : State) (j : List ℕ) (start n : ℕ) (b : List ℕ) (k : 
   pub counted : k ≡ acceptedIn (runBy judged s (recordsFrom j start n) .answers)
   pub state : t ≡ runBy judged s (recordsFrom j start n) .state
   pub buffer : c ≡ pasted (runBy judged s (recordsFrom j start n) .answers) b
+
+-- after a record by itself, the answer stored as the first
+pub record JudgesFirst (s : State) (l b : List ℕ) (k : ℕ) (t : State) (c : List ℕ) : Type 0 where
+  pub counted : k ≡ counts (judged s l .answer)
+  pub state : t ≡ judged s l .state
+  pub buffer : c ≡ answerAt b 0 (judged s l .answer)
+
+-- after n records, the first of them put together
+pub record PlaysJoined (s : State) (first j : List ℕ) (start n : ℕ) (b : List ℕ) (k : ℕ) (t : State) (c : List ℕ) : Type 0 where
+  pub counted : k ≡ acceptedIn (runBy judged s (joinedRecords first j start n) .answers)
+  pub state : t ≡ runBy judged s (joinedRecords first j start n) .state
+  pub buffer : c ≡ pasted (runBy judged s (joinedRecords first j start n) .answers) b

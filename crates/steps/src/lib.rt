@@ -1,8 +1,10 @@
 // An action on the host's bytes: judged, done or refused by its number, and answered.
+mod most; // most.rt: the run over at most so many records, the first of them put together elsewhere
 mod part; // part.rt: the run over records that lie one after another
 mod perform; // perform.rt: what an action does, and what it answers
 
 use host::Host;
+pub use most::run_most;
 pub use part::ANSWER;
 pub use part::ANSWER_VALUE;
 pub use part::put_answer;

@@ -17,7 +17,7 @@ ghost use Rattle.steps.specs.Parts.{runnable, Runs};
 ghost use Rattle.model.specs.Journal.{answerBytesOf};
 ghost use Rattle.steps.specs.Turns.{answerFrom, Turns, Plays, Stores};
 
-const RECORD: usize = reader::RECORD;
+pub(crate) const RECORD: usize = reader::RECORD;
 
 // what a record counts among the accepted, and where the next one starts
 struct Moved {
@@ -47,7 +47,7 @@ fn put(out: &mut [u8], at: usize, n: u8, v: u32)
 }
 
 // The answer, as answer i; 1 if it is done.
-fn store(out: &mut [u8], i: usize, a: Answer) -> usize
+pub(crate) fn store(out: &mut [u8], i: usize, a: Answer) -> usize
     requires { ⌜ answerBytes * i + answerBytes ≤ length (now out) ⌝ }
     ensures { λ r. ⌜ Stores (now (out .entry)) i a r (now (out .exit)) ⌝ }
 {
@@ -109,7 +109,7 @@ fn turn(h: &mut Host, j: &[u8], at: usize, out: &mut [u8], i: usize) -> Moved
     }
 }
 
-fn play(h: &mut Host, j: &[u8], start: usize, out: &mut [u8], n: usize) -> usize
+pub(crate) fn play(h: &mut Host, j: &[u8], start: usize, out: &mut [u8], n: usize) -> usize
     requires records { ⌜ recordBytes * n ≤ length (now j) - start ⌝ }
     requires room { ⌜ answerBytes * n ≤ length (now out) ⌝ }
     ensures { λ r. ⌜ Plays (view (now (h .entry))) (now (j .entry)) start n (now (out .entry)) r (view (now (h .exit))) (now (out .exit)) ⌝ }

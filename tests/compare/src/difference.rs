@@ -4,6 +4,7 @@ use second::bytes::OFFSETS;
 use second::hex::to_hex;
 use second::STATE_BYTES;
 
+use crate::feeds::{Feed, Given};
 use crate::hosts::{Files, Left};
 use crate::task::{Task, ANSWER, NUMBER, RULES, VERDICT};
 
@@ -56,6 +57,10 @@ pub fn of_results(task: &Task, ours: &[u8], second: &[u8]) -> Option<String> {
         Task::Save { machine, buffer } => {
             let start = of_images(ours, second);
             format!("{start}\n  {} bytes of buffer\n  machine {}", buffer.len(), to_hex(machine))
+        }
+        Task::Feed(feed) => format!("{}{}", of_calls(ours, second), call(feed)),
+        Task::Begin { kept } => {
+            both(&format!("begin over {}", to_hex(kept)), to_hex(ours), to_hex(second))
         }
     })
 }
@@ -127,6 +132,33 @@ fn of_images(ours: &[u8], second: &[u8]) -> String {
         Some(at) => both(&format!("byte {} of the buffer", at - NUMBER), ours[at], second[at]),
         None => of_states(&ours[end..], &second[end..]),
     }
+}
+
+/// Number and counts, then what is kept, then the buffer, then the machine.
+fn of_calls(ours: &[u8], second: &[u8]) -> String {
+    let (ours, second) = (Given::of(ours), Given::of(second));
+    let counts = |of: &Given| format!("{}, {} records, {} bytes", of.number, of.records, of.bytes);
+    if counts(&ours) != counts(&second) {
+        return both("number, records run and bytes taken", counts(&ours), counts(&second));
+    }
+    if ours.kept != second.kept {
+        return both("what is kept", to_hex(&ours.kept), to_hex(&second.kept));
+    }
+    match (0..ours.buffer.len()).find(|at| ours.buffer[*at] != second.buffer[*at]) {
+        Some(at) => both(&format!("byte {at} of the buffer"), ours.buffer[at], second.buffer[at]),
+        None => of_states(ours.machine, second.machine),
+    }
+}
+
+fn call(feed: &Feed) -> String {
+    let Feed { machine, kept, piece, allowance, last, buffer } = feed;
+    format!(
+        "\n  allowance {allowance}, last {last}, {} bytes of buffer\n  kept {}\n  piece {}\n  machine {}",
+        buffer.len(),
+        to_hex(kept),
+        to_hex(piece),
+        to_hex(machine)
+    )
 }
 
 fn of_states(ours: &[u8], second: &[u8]) -> String {

@@ -2,7 +2,7 @@
 
 use std::collections::BTreeMap;
 
-use second::{damage, fresh, image_of, program, IMAGE_BYTES};
+use second::{damage, fresh, image_of, program, streamed, IMAGE_BYTES};
 
 use crate::journals::journal;
 use crate::programs::{self, Program};
@@ -12,7 +12,7 @@ pub type Files = BTreeMap<String, Vec<u8>>;
 
 /// The words for the program, where an empty word names no image; and what is in the folder besides
 /// the image that it starts from: an old one that it is to replace, a new one left on its way.
-const FORMS: [(&str, &str, &[&str]); 9] = [
+pub const FORMS: [(&str, &str, &[&str]); 9] = [
     ("kept", "kept", &[]),
     ("", "kept", &[]),
     ("kept", "", &[]),
@@ -25,10 +25,13 @@ const FORMS: [(&str, &str, &[&str]); 9] = [
 ];
 
 /// Those that start from an image.
-const FROM_IMAGE: [usize; 6] = [0, 2, 3, 4, 6, 7];
+pub const FROM_IMAGE: [usize; 6] = [0, 2, 3, 4, 6, 7];
 
 /// What the program may answer, 0 for a run, and whether that is of the image that it starts from.
 const NUMBERS: [(u8, bool); 5] = [(0, false), (1, true), (13, false), (14, false), (16, true)];
+
+/// The number of those that no stream gets.
+const TOO_MANY: u8 = 14;
 
 /// A run of the program in a folder of its own.
 pub struct Host {
@@ -36,6 +39,8 @@ pub struct Host {
     /// What is in the folder before.
     pub files: Files,
     pub journal: Vec<u8>,
+    /// Where the journal is run as it arrives, in pieces of so many bytes.
+    pub stream: Option<usize>,
 }
 
 /// What a run leaves.
@@ -48,13 +53,18 @@ pub struct Left {
 }
 
 impl Host {
-    fn new(form: usize, image: &[u8], journal: Vec<u8>) -> Host {
+    pub fn new(form: usize, image: &[u8], journal: Vec<u8>) -> Host {
         let (from, _, before) = FORMS[form];
         let mut files: Files = before.iter().map(|name| (name.to_string(), old(name))).collect();
         if !from.is_empty() {
             files.insert(from.into(), image.to_vec());
         }
-        Host { form, files, journal }
+        Host { form, files, journal, stream: None }
+    }
+
+    /// The same with the journal run as it arrives.
+    pub fn arriving(self, piece: usize) -> Host {
+        Host { stream: Some(piece), ..self }
     }
 
     /// The names of the images that it starts from and saves to.
@@ -67,7 +77,11 @@ impl Host {
     pub fn expected(&self) -> Left {
         let [from, to] = self.words();
         let mut files = self.files.clone();
-        let ended = program(files.get(from).map(|image| &image[..]), &self.journal);
+        let image = files.get(from).map(|image| &image[..]);
+        let ended = match self.stream {
+            None => program(image, &self.journal),
+            Some(piece) => streamed(image, &self.journal, piece),
+        };
         if let Some(image) = ended.saved.filter(|_| !to.is_empty()) {
             files.insert(to.into(), image);
             files.remove(&format!("{to}.new"));
@@ -96,7 +110,7 @@ fn runs() -> Vec<Host> {
 }
 
 /// Bytes that are no image.
-fn no_images() -> Vec<Vec<u8>> {
+pub fn no_images() -> Vec<Vec<u8>> {
     let image = image_of(&fresh());
     let with = |at: usize, byte: u8| {
         let mut image = image.clone();
@@ -120,7 +134,7 @@ fn no_images() -> Vec<Vec<u8>> {
 }
 
 /// Images of states that each break one rule.
-fn broken() -> Vec<Vec<u8>> {
+pub fn broken() -> Vec<Vec<u8>> {
     let states = damage::states(77, 200);
     let alone = |rule| states.iter().find(|state| damage::broken_alone(state) == Some(rule));
     (0..10).filter_map(alone).map(image_of).collect()
@@ -156,14 +170,20 @@ pub fn few() -> [Host; 2] {
 
 /// Each run in a process and a folder of its own; gives how many there were.
 pub fn all(rpj: Program) -> Result<usize, String> {
-    let hosts: Vec<Host> =
-        runs().into_iter().chain(refused_images()).chain(refused_journals()).collect();
-    let mut tally = HostTally::default();
+    let hosts = [runs(), refused_images(), refused_journals()].into_iter().flatten();
+    compared(rpj, hosts.collect(), false)
+}
+
+/// As many as there are, each against the second program's; all together must be all forms, as streams or not.
+pub fn compared(rpj: Program, hosts: Vec<Host>, streams: bool) -> Result<usize, String> {
+    let mut tally = HostTally::new(streams);
     for (i, host) in hosts.iter().enumerate() {
         let ours = programs::host(rpj, host)?;
         if let Some(text) = difference::of_left(&ours, &host.expected()) {
-            let [from, to] = host.words();
-            return Err(format!("difference: rpj, run {i}, from {from:?} to {to:?}: {text}"));
+            let ([from, to], stream) = (host.words(), host.stream);
+            return Err(format!(
+                "difference: rpj, run {i}, from {from:?} to {to:?}, stream by {stream:?}: {text}"
+            ));
         }
         tally.note(host, &ours);
     }
@@ -174,48 +194,68 @@ pub fn all(rpj: Program) -> Result<usize, String> {
 }
 
 /// How often each form got each number.
-#[derive(Default)]
-pub struct HostTally([[usize; NUMBERS.len()]; FORMS.len()]);
+pub struct HostTally {
+    counts: [[usize; NUMBERS.len()]; FORMS.len()],
+    /// Of journals that are run as they arrive, which are never too long.
+    streams: bool,
+}
 
 impl HostTally {
+    pub fn new(streams: bool) -> HostTally {
+        HostTally { counts: Default::default(), streams }
+    }
+
     fn note(&mut self, host: &Host, ours: &Left) {
         let text = String::from_utf8_lossy(&ours.text);
         let refused = text.strip_prefix("refused ").map(|rest| rest.trim_end().parse());
         let number = refused.unwrap_or(Ok(0));
         let place = NUMBERS.iter().position(|(n, _)| number == Ok(*n));
         if let Some(place) = place {
-            self.0[host.form][place] += 1;
+            self.counts[host.form][place] += 1;
         }
     }
 
-    fn possible(form: usize, place: usize) -> bool {
-        !NUMBERS[place].1 || FROM_IMAGE.contains(&form)
+    fn possible(form: usize, place: usize, streams: bool) -> bool {
+        let (number, of_image) = NUMBERS[place];
+        (!of_image || FROM_IMAGE.contains(&form)) && !(streams && number == TOO_MANY)
     }
 
     /// Everything met once.
-    pub fn full() -> HostTally {
-        HostTally([[1; NUMBERS.len()]; FORMS.len()])
+    pub fn full(streams: bool) -> HostTally {
+        let mut full = HostTally::new(streams);
+        full.needed().into_iter().for_each(|count| *count = 1);
+        full
     }
 
     /// The counts of which none may be 0.
     pub fn needed(&mut self) -> Vec<&mut usize> {
-        let rows = self.0.iter_mut().enumerate();
+        let streams = self.streams;
+        let rows = self.counts.iter_mut().enumerate();
         let counts = rows.flat_map(|(form, row)| {
             let row = row.iter_mut().enumerate();
-            row.filter(move |(place, _)| HostTally::possible(form, *place)).map(|(_, count)| count)
+            let needed = move |place: usize| HostTally::possible(form, place, streams);
+            row.filter(move |(place, _)| needed(*place)).map(|(_, count)| count)
         });
         counts.collect()
     }
 
+    /// What never happened, and what can't have.
     pub fn missing(&self) -> Vec<String> {
         let mut missing = Vec::new();
-        for (form, row) in self.0.iter().enumerate() {
-            let never = (0..row.len()).filter(|i| row[*i] == 0 && HostTally::possible(form, *i));
+        for (form, row) in self.counts.iter().enumerate() {
             let (from, to, before) = FORMS[form];
-            missing.extend(never.map(|i| {
-                let number = NUMBERS[i].0;
-                format!("rpj from {from:?} to {to:?} with {before:?} never got {number}")
-            }));
+            let what = if self.streams { "rpj as a stream" } else { "rpj" };
+            for (place, count) in row.iter().enumerate() {
+                let said = match (*count > 0, HostTally::possible(form, place, self.streams)) {
+                    (false, true) => "never got",
+                    (true, false) => "got",
+                    _ => continue,
+                };
+                let number = NUMBERS[place].0;
+                missing.push(format!(
+                    "{what} from {from:?} to {to:?} with {before:?} {said} {number}"
+                ));
+            }
         }
         missing
     }

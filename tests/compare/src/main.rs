@@ -2,19 +2,26 @@
 //! runs with one byte of ours spoiled, which must stop there; a journal by profile and seed.
 
 mod blind;
+mod chains;
 mod crowd;
 mod declined;
 mod difference;
 mod events;
+mod feeds;
 mod hosts;
 mod image_tally;
 mod images;
 mod journals;
 mod missed;
 mod noted;
+mod noted_pieces;
+mod piece_met;
+mod piece_tally;
+mod pieces;
 mod plan;
 mod programs;
 mod self_test;
+mod streams;
 mod tally;
 mod task;
 mod trips;
@@ -85,22 +92,10 @@ fn everything(probe: Program, rpj: Option<Program>) -> Result<(), String> {
     let start = Instant::now();
     let mut tally = Tally::default();
     let journals = journals::all();
-    let (printed, hosts) = rpj.map_or(Ok((0, 0)), |rpj| by_rpj(rpj, &journals))?;
-    // one after the other, since all of them at once are many bytes
-    let parts: [&dyn Fn() -> Vec<Item>; 8] = [
-        &|| plan::runs(&journals),
-        &plan::rooms,
-        &|| plan::given(120),
-        &|| plan::walks(&journals, &WALKED),
-        &|| plan::damaged(40, 250),
-        &|| plan::struck(20, 250),
-        &|| images::whole(&journals),
-        &images::changed,
-    ];
-    for items in parts {
-        same(probe, &items(), &mut tally, None)?;
-    }
+    let (printed, hosts, streams) = rpj.map_or(Ok((0, 0, 0)), |rpj| by_rpj(rpj, &journals))?;
+    by_probe(probe, &journals, &mut tally)?;
     let trips = trips::all(probe)?;
+    let chains = programs::asked(probe, |ask| chains::all(ask, &mut tally.pieces))?;
     let mut events = Events::default();
     events.watch(&journals);
     tally.print();
@@ -110,22 +105,44 @@ fn everything(probe: Program, rpj: Option<Program>) -> Result<(), String> {
     if !missing.is_empty() {
         return Err(missing.join("\n"));
     }
-    let Tally { journals, records, states, valid, images, .. } = tally;
+    let Tally { journals, records, states, valid, images, pieces, .. } = tally;
     println!(
         "no difference: {journals} journals with {records} records, {states} states ({} not \
          valid), {} images opened, loaded or saved, {trips} runs with a save and a load between, \
-         {printed} outputs of rpj, {hosts} runs of it with images, {} s",
+         {} pieces fed, {chains} journals in pieces to their ends, {printed} outputs of rpj, \
+         {hosts} runs of it with images, {streams} with journals as they arrive, {} s",
         states - valid,
         images.tasks,
+        pieces.calls,
         start.elapsed().as_secs()
     );
     Ok(())
 }
 
-/// How many journals it printed, and how many it ran from images or to images.
-fn by_rpj(rpj: Program, journals: &[Journal]) -> Result<(usize, usize), String> {
+/// All tasks that do not depend on what ours gave before.
+fn by_probe(probe: Program, journals: &[Journal], tally: &mut Tally) -> Result<(), Stop> {
+    // one after the other, since all of them at once are many bytes
+    let parts: [&dyn Fn() -> Vec<Item>; 9] = [
+        &|| plan::runs(journals),
+        &plan::rooms,
+        &|| plan::given(120),
+        &|| plan::walks(journals, &WALKED),
+        &|| plan::damaged(40, 250),
+        &|| plan::struck(20, 250),
+        &|| images::whole(journals),
+        &images::changed,
+        &pieces::calls,
+    ];
+    for items in parts {
+        same(probe, &items(), tally, None)?;
+    }
+    Ok(())
+}
+
+/// How many journals it printed, how many it ran from images or to images, and how many as they arrived.
+fn by_rpj(rpj: Program, journals: &[Journal]) -> Result<(usize, usize, usize), String> {
     let printed = print_all(rpj, journals.iter().chain(&journals::longer()))?;
-    Ok((printed, hosts::all(rpj)?))
+    Ok((printed, hosts::all(rpj)?, streams::all(rpj)?))
 }
 
 fn too_few(tally: &Tally, printed: Option<usize>) -> Vec<String> {
@@ -134,6 +151,7 @@ fn too_few(tally: &Tally, printed: Option<usize>) -> Vec<String> {
         ("records", tally.records, 300_000),
         ("states", tally.states - tally.valid, 5_000),
         ("images", tally.images.tasks, 20_000),
+        ("pieces fed", tally.pieces.calls, 10_000),
         ("journals printed", printed.unwrap_or(100), 100),
     ];
     let short = least.iter().filter(|(_, count, least)| count < least);

@@ -51,18 +51,24 @@ pub fn each() -> Result<usize, String> {
             return Err(format!("event {left_out} was left out, and not missed"));
         }
     }
-    let hosts = HostTally::full().needed().len();
-    for left_out in 0..hosts {
-        let mut tally = HostTally::full();
+    let hosts = hosts(false)? + hosts(true)?;
+    for form in [whole, continued, judged] {
+        drops(form)?;
+    }
+    Ok(counts + events + hosts + 3 * DROPS.len())
+}
+
+/// Each run of rpj left out, of journals that come as a whole or as a stream.
+fn hosts(streams: bool) -> Result<usize, String> {
+    let counts = HostTally::full(streams).needed().len();
+    for left_out in 0..counts {
+        let mut tally = HostTally::full(streams);
         *tally.needed()[left_out] = 0;
         if tally.missing().len() != 1 {
             return Err(format!("a run of rpj, {left_out}, was left out, and not missed"));
         }
     }
-    for form in [whole, continued, judged] {
-        drops(form)?;
-    }
-    Ok(counts + events + hosts + 3 * DROPS.len())
+    Ok(counts)
 }
 
 /// Everything else met, and the runs in one form of a task: all of them, then all but one.

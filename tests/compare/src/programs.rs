@@ -3,14 +3,21 @@
 use std::fs::DirEntry;
 use std::io::{self, BufReader, BufWriter, Read, Write};
 use std::path::{Path, PathBuf};
-use std::process::{Child, Command, Stdio};
+use std::process::{Child, ChildStdin, ChildStdout, Command, Stdio};
+use std::sync::mpsc::{channel, Receiver, RecvTimeoutError};
 use std::time::Duration;
 
 use crate::hosts::{Files, Host, Left};
-use crate::task::Item;
+use crate::task::{Item, Task};
 
 /// Before each piece of input, so that a read can come back with less than it asked for.
 const PAUSE: Duration = Duration::from_micros(50);
+
+/// The word that has `rpj` run a journal as it arrives, behind those for images.
+const STREAM: &str = "stream";
+
+/// So long a line may take to come.
+const PATIENCE: Duration = Duration::from_secs(30);
 
 /// A program that rt built, and the script that starts such programs on any machine.
 #[derive(Clone, Copy)]
@@ -25,9 +32,8 @@ pub fn probe<E: From<String>>(
     items: &[Item],
     mut look: impl FnMut(usize, Vec<u8>) -> Result<(), E>,
 ) -> Result<(), E> {
-    let mut child = started(program)?;
-    let input = child.stdin.take().ok_or_else(|| "no standard input".to_string())?;
-    let output = child.stdout.take().ok_or_else(|| "no standard output".to_string())?;
+    let mut child = started(program, &[])?;
+    let (input, output) = pipes(&mut child)?;
     let mut output = BufReader::new(output);
     // However this ends, `output` is closed in it: then probe ends, and so does the writing.
     let outcome: Result<(), E> = std::thread::scope(|scope| {
@@ -46,16 +52,47 @@ pub fn probe<E: From<String>>(
         }
         Ok(at_end(output)?)
     });
+    ended(child, outcome)
+}
+
+/// Stops a program whose outcome is wrong already.
+fn ended<T, E: From<String>>(mut child: Child, outcome: Result<T, E>) -> Result<T, E> {
     if outcome.is_err() {
         let _ = child.kill();
     }
     let status = child.wait().map_err(|e| e.to_string())?;
-    outcome?;
-    if status.success() {
-        Ok(())
-    } else {
-        Err(format!("probe ended with {status}").into())
+    let outcome = outcome?;
+    match status.success() {
+        true => Ok(outcome),
+        false => Err(format!("the program ended with {status}").into()),
     }
+}
+
+fn pipes(child: &mut Child) -> Result<(ChildStdin, ChildStdout), String> {
+    let input = child.stdin.take().ok_or("no standard input")?;
+    Ok((input, child.stdout.take().ok_or("no standard output")?))
+}
+
+/// Gives the result of a task.
+pub type Ask<'a> = dyn FnMut(&Task) -> Result<Vec<u8>, String> + 'a;
+
+/// One process of `probe`, which is asked one task after the other, each with a look at the result before.
+pub fn asked<T>(
+    program: Program,
+    work: impl FnOnce(&mut Ask) -> Result<T, String>,
+) -> Result<T, String> {
+    let mut child = started(program, &[])?;
+    let (mut input, output) = pipes(&mut child)?;
+    let mut output = BufReader::new(output);
+    // it reads a whole task before it writes, so that neither waits for the other
+    let worked = work(&mut |task| {
+        let mut ours = vec![0; task.result_size()];
+        let asked = input.write_all(&task.bytes()).and_then(|()| output.read_exact(&mut ours));
+        asked.map(|()| ours).map_err(|_| "probe has no result".into())
+    });
+    drop(input);
+    let outcome = worked.and_then(|value| at_end(output).map(|()| value));
+    ended(child, outcome)
 }
 
 fn at_end(mut output: impl Read) -> Result<(), String> {
@@ -67,7 +104,7 @@ fn at_end(mut output: impl Read) -> Result<(), String> {
 
 /// What `rpj` prints for a journal, which comes in pieces of so many bytes.
 pub fn rpj(program: Program, journal: &[u8], piece: usize) -> Result<Vec<u8>, String> {
-    printed(started(program)?, journal, piece)
+    printed(started(program, &[])?, journal, piece)
 }
 
 /// What `rpj` leaves of a run from an image or to one.
@@ -82,22 +119,23 @@ pub fn host(program: Program, host: &Host) -> Result<Left, String> {
         .args(["-c", "exec \"$@\" 3>\"$0\""])
         .args([&room.status(), program.start, program.path])
         .args(host.words().map(named))
+        .args(host.stream.map(|_| STREAM))
         .stdin(Stdio::piped())
         .stdout(Stdio::piped())
         .spawn();
     let child = child.map_err(|e| format!("sh: {e}"))?;
-    let text = printed(child, &host.journal, host.journal.len().max(1))?;
+    let piece = host.stream.unwrap_or(host.journal.len()).max(1);
+    let text = printed(child, &host.journal, piece)?;
     let status = std::fs::read(room.status()).map_err(|e| e.to_string())?;
     Ok(Left { text, status, files: room.files().map_err(|e| e.to_string())? })
 }
 
 /// What a program prints for a journal, which comes in pieces of so many bytes.
 fn printed(mut child: Child, journal: &[u8], piece: usize) -> Result<Vec<u8>, String> {
-    let mut input = child.stdin.take().ok_or("no standard input")?;
-    let mut output = child.stdout.take().ok_or("no standard output")?;
+    let (mut input, mut output) = pipes(&mut child)?;
     let mut text = Vec::new();
     std::thread::scope(|scope| {
-        // A program may stop reading once a journal is too long.
+        // A program may stop reading once a journal is refused.
         scope.spawn(move || {
             let _ = journal.chunks(piece).try_for_each(|part| {
                 std::thread::sleep(PAUSE);
@@ -106,17 +144,56 @@ fn printed(mut child: Child, journal: &[u8], piece: usize) -> Result<Vec<u8>, St
         });
         output.read_to_end(&mut text).map_err(|e| e.to_string())
     })?;
-    let status = child.wait().map_err(|e| e.to_string())?;
-    if status.success() {
-        Ok(text)
-    } else {
-        Err(format!("rpj ended with {status}"))
-    }
+    ended(child, Ok(text))
 }
 
-fn started(program: Program) -> Result<Child, String> {
+/// Gives `rpj` one piece after the other, and each only once all that those before it bring is printed; gives all that it
+/// prints. The input stays open until the program has ended, where no end of it is asked for.
+pub fn in_step(
+    program: Program,
+    pieces: &[(&[u8], String)],
+    ends: bool,
+) -> Result<Vec<u8>, String> {
+    let mut child = started(program, &["", "", STREAM])?;
+    let (mut input, mut output) = pipes(&mut child)?;
+    let (send, parts) = channel();
+    // ends with the program, and that is stopped where it is not waited for
+    std::thread::spawn(move || {
+        let mut part = [0; 4096];
+        while let Ok(length @ 1..) = output.read(&mut part) {
+            let _ = send.send(part[..length].to_vec());
+        }
+    });
+    let (mut text, mut expected) = (Vec::new(), 0);
+    for (i, (piece, brings)) in pieces.iter().enumerate() {
+        expected += brings.len();
+        let told = input.write_all(piece).map_err(|e| e.to_string());
+        if let Err(why) = told.and_then(|()| wait(&parts, &mut text, expected)) {
+            return ended(child, Err(format!("piece {i}: {why}")));
+        }
+    }
+    let input = Some(input).filter(|_| !ends);
+    let outcome = wait(&parts, &mut text, usize::MAX).map(|()| text);
+    drop(input);
+    ended(child, outcome)
+}
+
+/// Until there are so many bytes of text, or no more to come.
+fn wait(parts: &Receiver<Vec<u8>>, text: &mut Vec<u8>, bytes: usize) -> Result<(), String> {
+    while text.len() < bytes {
+        match parts.recv_timeout(PATIENCE) {
+            Ok(part) => text.extend(part),
+            Err(RecvTimeoutError::Disconnected) => return Ok(()),
+            Err(RecvTimeoutError::Timeout) => return Err("its lines do not come".into()),
+        }
+    }
+    Ok(())
+}
+
+fn started(program: Program, words: &[&str]) -> Result<Child, String> {
     Command::new(program.start)
         .arg(program.path)
+        .args(words)
         .stdin(Stdio::piped())
         .stdout(Stdio::piped())
         .spawn()

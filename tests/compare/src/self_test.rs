@@ -1,12 +1,15 @@
 //! The comparison itself: results with one byte changed must be seen.
 
+use crate::chains::Chain;
 use crate::hosts::{self, Left};
 use crate::images;
 use crate::journals::{self, Journal};
 use crate::programs::Program;
 use crate::tally::Tally;
 use crate::task::Item;
-use crate::{difference, missed, noted, plan, programs, same, trips, Spot};
+use crate::trips::Trip;
+use crate::{chains, difference, missed, noted, noted_pieces, pieces, plan, programs, same};
+use crate::{streams, trips, Spot};
 
 /// A few tasks of each form.
 fn items() -> Vec<Item> {
@@ -16,6 +19,7 @@ fn items() -> Vec<Item> {
     items.extend(plan::given(3));
     items.extend(plan::damaged(1, 3));
     items.extend(images::few());
+    items.extend(pieces::few());
     items
 }
 
@@ -38,7 +42,7 @@ pub fn run(probe: Program, rpj: Option<Program>) -> Result<(), String> {
         }
         Ok(())
     })?;
-    seen += trip(probe)?;
+    seen += trip(probe)? + chain(probe)?;
     if let Some(rpj) = rpj {
         seen += texts(rpj)? + left(rpj)?;
     }
@@ -48,6 +52,7 @@ pub fn run(probe: Program, rpj: Option<Program>) -> Result<(), String> {
     println!("{seen} changed bytes, each of them seen");
     println!("{} counts left out, each of them missed", missed::each()?);
     println!("{} tasks with images, each of them noted as what it is", noted::each()?);
+    println!("{} calls with pieces, each of them noted as what it is", noted_pieces::each()?);
     Ok(())
 }
 
@@ -78,15 +83,31 @@ fn texts(rpj: Program) -> Result<usize, String> {
 
 /// Each byte of what counts on a trip changed.
 fn trip(probe: Program) -> Result<usize, String> {
-    let mut trip = trips::trips(probe, vec![(0, 333)])?.swap_remove(0);
-    if let Some(why) = trip.wrong() {
-        return Err(format!("a trip is wrong as it is: {why}"));
+    let trip = trips::trips(probe, vec![(0, 333)])?.swap_remove(0);
+    each_byte("a trip", trip, Trip::wrong, Trip::byte)
+}
+
+/// Each byte of what counts over a chain of calls changed.
+fn chain(probe: Program) -> Result<usize, String> {
+    let chain = programs::asked(probe, |ask| chains::one(ask))?;
+    each_byte("a chain", chain, Chain::wrong, Chain::byte)
+}
+
+/// What is right as it is must be wrong with any byte changed; gives how many there are.
+fn each_byte<T>(
+    what: &str,
+    mut of: T,
+    wrong: fn(&T) -> Option<&'static str>,
+    byte: fn(&mut T, usize) -> Option<&mut u8>,
+) -> Result<usize, String> {
+    if let Some(why) = wrong(&of) {
+        return Err(format!("{what} is wrong as it is: {why}"));
     }
     let mut at = 0;
-    while let Some(byte) = trip.byte(at) {
-        let before = std::mem::replace(byte, *byte ^ 1);
-        trip.wrong().ok_or_else(|| format!("byte {at} of a trip was changed, and not seen"))?;
-        trip.byte(at).into_iter().for_each(|byte| *byte = before);
+    while let Some(changed) = byte(&mut of, at) {
+        let before = std::mem::replace(changed, *changed ^ 1);
+        wrong(&of).ok_or_else(|| format!("byte {at} of {what} was changed, and not seen"))?;
+        byte(&mut of, at).into_iter().for_each(|byte| *byte = before);
         at += 1;
     }
     Ok(at)
@@ -104,7 +125,7 @@ const PARTS: [Part; 3] = [
 /// Each byte of what a run with images leaves changed; then a file more, and a file less.
 fn left(rpj: Program) -> Result<usize, String> {
     let mut changed = 0;
-    for host in hosts::few() {
+    for host in hosts::few().into_iter().chain(streams::few()) {
         let (mut ours, second) = (programs::host(rpj, &host)?, host.expected());
         if let Some(text) = difference::of_left(&ours, &second) {
             return Err(format!("rpj with images differs as it is: {text}"));
@@ -136,7 +157,7 @@ fn left(rpj: Program) -> Result<usize, String> {
 pub fn spoiled(probe: Program) -> Result<(), String> {
     let items = items();
     same(probe, &items, &mut Tally::default(), None)?;
-    for task in [0, items.len() / 2, items.len() - 1] {
+    for task in [0, items.len() / 2, items.len() - 3, items.len() - 1] {
         let size = items[task].task.result_size();
         for byte in [0, size / 2, size - 1] {
             let spot = Spot { task, byte };

@@ -1,6 +1,7 @@
 //! What was met, counted from our results; the table of it, and what is missing in it.
 
 use crate::image_tally::ImageTally;
+use crate::piece_tally::PieceTally;
 use crate::task::{Task, RULES, VERDICT};
 
 /// Each kind with the numbers that the tables of docs/HOST.md let it get, but for 1.
@@ -54,6 +55,7 @@ pub struct Tally {
     broken: [usize; 10],
     alone: [usize; 10],
     pub images: ImageTally,
+    pub pieces: PieceTally,
     pub valid: usize,
     pub journals: usize,
     pub records: usize,
@@ -86,7 +88,7 @@ impl Tally {
         needed.extend(verdicts.filter(|(n, _)| OF_NO_KIND.contains(n)));
         needed.extend(self.alone.iter_mut().enumerate());
         let needed = needed.into_iter().map(|(_, count)| count);
-        needed.chain(self.images.needed()).collect()
+        needed.chain(self.images.needed()).chain(self.pieces.needed()).collect()
     }
 
     pub fn note(&mut self, task: &Task, ours: &[u8]) {
@@ -99,6 +101,8 @@ impl Tally {
             Task::Open { .. } | Task::Load { .. } | Task::Save { .. } => {
                 self.images.note(task, ours[0]);
             }
+            Task::Feed(feed) => self.pieces.note(feed, ours),
+            Task::Begin { kept } => self.pieces.note_begin(kept),
         }
     }
 
@@ -166,6 +170,7 @@ impl Tally {
         println!("{:<12}{}", "broken", cells(&self.broken));
         println!("{:<12}{}", "alone", cells(&self.alone));
         self.images.print();
+        self.pieces.print();
     }
 
     /// What never happened, and what can't have.
@@ -193,6 +198,7 @@ impl Tally {
         let never = (0..10).filter(|rule| self.alone[*rule] == 0);
         missing.extend(never.map(|rule| format!("rule {} was never broken alone", rule + 1)));
         missing.extend(self.images.missing());
+        missing.extend(self.pieces.missing());
         missing
     }
 }

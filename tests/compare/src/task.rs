@@ -1,7 +1,9 @@
 //! Tasks of the program `probe`: their bytes, and what the second program makes of them in the same bytes.
 
 use second::image::{load, open, save};
-use second::{fresh, rules, run_journal, step, State, STATE_BYTES};
+use second::{begin, fresh, rules, run_journal, step, Kept, State, KEPT, STATE_BYTES};
+
+use crate::feeds::Feed;
 
 pub enum Task {
     /// A journal with an answer buffer, on a machine or on the fresh one.
@@ -14,6 +16,10 @@ pub enum Task {
     Load { machine: Vec<u8>, image: Vec<u8> },
     /// A machine into a buffer.
     Save { machine: Vec<u8>, buffer: Vec<u8> },
+    /// A piece of a journal.
+    Feed(Feed),
+    /// What is kept, made anew.
+    Begin { kept: Kept },
 }
 
 /// A task, and what made it.
@@ -47,17 +53,24 @@ impl Task {
             Task::Open { machine, image } => [&head(3, image, &[])[..], machine, image].concat(),
             Task::Load { machine, image } => [&head(4, image, &[])[..], machine, image].concat(),
             Task::Save { machine, buffer } => [&head(5, &[], buffer)[..], machine, buffer].concat(),
+            Task::Feed(feed) => {
+                let mut head = head(6, &feed.piece, &feed.buffer);
+                head[1] = feed.last as u8;
+                [&head[..], &feed.body()].concat()
+            }
+            Task::Begin { kept } => [&head(7, &[], &[])[..], kept].concat(),
         }
     }
 
     pub fn result_size(&self) -> usize {
-        STATE_BYTES
-            + match self {
-                Task::Run { buffer, .. } => VERDICT + buffer.len(),
-                Task::Judge { .. } => RULES + ANSWER,
-                Task::Open { .. } | Task::Load { .. } => NUMBER,
-                Task::Save { buffer, .. } => NUMBER + buffer.len(),
-            }
+        match self {
+            Task::Run { buffer, .. } => VERDICT + buffer.len() + STATE_BYTES,
+            Task::Judge { .. } => RULES + ANSWER + STATE_BYTES,
+            Task::Open { .. } | Task::Load { .. } => NUMBER + STATE_BYTES,
+            Task::Save { buffer, .. } => NUMBER + buffer.len() + STATE_BYTES,
+            Task::Feed(feed) => feed.result_size(),
+            Task::Begin { .. } => KEPT,
+        }
     }
 
     /// What the second program says.
@@ -68,6 +81,8 @@ impl Task {
             Task::Open { machine, image } => taken(open, machine, image),
             Task::Load { machine, image } => taken(load, machine, image),
             Task::Save { machine, buffer } => saved(machine, buffer),
+            Task::Feed(feed) => feed.expected(),
+            Task::Begin { kept } => begun(*kept),
         }
     }
 }
@@ -123,4 +138,9 @@ fn saved(machine: &[u8], buffer: &[u8]) -> Vec<u8> {
     let mut buffer = buffer.to_vec();
     let number = number(save(&state, &mut buffer));
     [vec![number], buffer, state.to_bytes()].concat()
+}
+
+fn begun(mut kept: Kept) -> Vec<u8> {
+    begin(&mut kept);
+    kept.to_vec()
 }

@@ -43,7 +43,7 @@ pub fn run_journal(state: &mut State, journal: &[u8], answers: &mut [u8]) -> Res
     Ok(report)
 }
 
-fn put_answer(answer: &mut [u8], number: u8, value: u32) {
+pub fn put_answer(answer: &mut [u8], number: u8, value: u32) {
     answer[..4].copy_from_slice(&[number, 0, 0, 0]);
     answer[4..].copy_from_slice(&value.to_le_bytes());
 }

@@ -1,4 +1,4 @@
-//! `second run [FROM TO]|state|rules|step|cases|gen SEED COUNT PROFILE|damage SEED COUNT`
+//! `second run [FROM TO]|stream [FROM TO]|state|rules|step|cases|gen SEED COUNT PROFILE|damage SEED COUNT`
 
 use std::fs;
 use std::io::{self, BufRead, Read, Write};
@@ -7,13 +7,19 @@ use std::process::ExitCode;
 
 use second::hex::{from_hex, to_hex};
 use second::journal::answer_bytes;
-use second::{cases, damage, fresh, gen, program, rules, run_journal, step, State, STATE_BYTES};
+use second::program::Ended;
+use second::{cases, damage, fresh, gen, program, rules, run_journal};
+use second::{step, State, Stream, STATE_BYTES};
 
 type Outcome = Result<ExitCode, String>;
 
-/// FROM and TO name images; an empty word names none.
-const USAGE: &str = "usage: second run [FROM TO] | state | rules | step | cases \
+/// FROM and TO name images; an empty word names none. stream runs a journal as it arrives, however long it is; gen writes one.
+const USAGE: &str =
+    "usage: second run [FROM TO] | stream [FROM TO] | state | rules | step | cases \
                      | gen SEED COUNT deep|near|noise | damage SEED COUNT";
+
+/// How much of a journal that arrives is read at a time, so that its lines come soon.
+const PIECE: usize = 4096;
 
 fn main() -> ExitCode {
     let words: Vec<String> = std::env::args().skip(1).collect();
@@ -21,6 +27,8 @@ fn main() -> ExitCode {
     let outcome = match words[..] {
         ["run"] => run("", ""),
         ["run", from, to] => run(from, to),
+        ["stream"] => stream("", ""),
+        ["stream", from, to] => stream(from, to),
         ["state"] => state(),
         ["rules"] => each_line(rules_line),
         ["step"] => each_line(step_line),
@@ -52,14 +60,54 @@ fn input() -> Result<Vec<u8>, String> {
 
 fn run(from: &str, to: &str) -> Outcome {
     let journal = input()?;
-    let image =
-        if from.is_empty() { None } else { Some(fs::read(from).map_err(|e| e.to_string())?) };
-    let ended = program(image.as_deref(), &journal);
+    end(program(read_image(from)?.as_deref(), &journal), to)
+}
+
+fn read_image(from: &str) -> Result<Option<Vec<u8>>, String> {
+    let image = || fs::read(from).map_err(|e| e.to_string());
+    (!from.is_empty()).then(image).transpose()
+}
+
+/// Prints what is left to be printed, then saves.
+fn end(ended: Ended, to: &str) -> Outcome {
     put(ended.text.as_bytes())?;
     if let Some(image) = ended.saved.filter(|_| !to.is_empty()) {
         keep(&image, to).map_err(|e| e.to_string())?;
     }
     Ok(ExitCode::from(ended.status))
+}
+
+/// The journal as it arrives.
+fn stream(from: &str, to: &str) -> Outcome {
+    match Stream::new(read_image(from)?.as_deref()) {
+        Ok(stream) => end(arriving(stream)?, to),
+        Err(number) => end(Ended::refused(number), to),
+    }
+}
+
+/// Prints each piece's lines before the next one is read.
+fn arriving(mut stream: Stream) -> Result<Ended, String> {
+    let mut piece = [0; PIECE];
+    loop {
+        let length = arrived(&mut piece)?;
+        match stream.take(&piece[..length], length == 0) {
+            Err(number) => return Ok(Ended::refused(number)),
+            Ok(text) if length == 0 => {
+                return Ok(Ended { text, status: 0, saved: Some(stream.image()) })
+            }
+            Ok(text) => put(text.as_bytes())?,
+        };
+    }
+}
+
+/// What is there to be read, 0 bytes at the end of the input.
+fn arrived(piece: &mut [u8]) -> Result<usize, String> {
+    loop {
+        match io::stdin().lock().read(piece) {
+            Err(e) if e.kind() == io::ErrorKind::Interrupted => {}
+            length => return length.map_err(|e| e.to_string()),
+        }
+    }
 }
 
 /// At every moment the old file or the new one is there whole.

@@ -13,6 +13,12 @@ pub struct Ended {
     pub saved: Option<Vec<u8>>,
 }
 
+impl Ended {
+    pub fn refused(number: u8) -> Ended {
+        Ended { text: format!("refused {number}\n"), status: 1, saved: None }
+    }
+}
+
 /// A journal on the state that an image holds, or else on the fresh machine.
 pub fn program(from: Option<&[u8]>, journal: &[u8]) -> Ended {
     let mut state = fresh();
@@ -23,7 +29,7 @@ pub fn program(from: Option<&[u8]>, journal: &[u8]) -> Ended {
             let text = listing(&report, &answers);
             Ended { text, status: 0, saved: Some(image_of(&state)) }
         }
-        Err(number) => Ended { text: format!("refused {number}\n"), status: 1, saved: None },
+        Err(number) => Ended::refused(number),
     }
 }
 

@@ -11,6 +11,11 @@ pub fn step(state: &mut State, record: &[u8]) -> (u8, u32) {
     if !valid(state) {
         return (1, 0);
     }
+    judge(state, record)
+}
+
+/// The same on a state that is known to be valid, and so leads only to valid states.
+pub fn judge(state: &mut State, record: &[u8]) -> (u8, u32) {
     let Some(action) = decode(record) else { return (2, 0) };
     match refusal(state, action) {
         Some(number) => (number, 0),

@@ -2,31 +2,12 @@
 
 mod support;
 
-use std::io::Write;
 use std::path::PathBuf;
-use std::process::{Command, Output, Stdio};
 
 use second::hex::to_hex;
 use second::{fresh, image_of, program_output};
+use support::binary::{printed, second, Room};
 use support::{after_nine, journal, nine};
-
-fn second(words: &[&str], input: &[u8]) -> Output {
-    let mut child = Command::new(env!("CARGO_BIN_EXE_second"))
-        .args(words)
-        .stdin(Stdio::piped())
-        .stdout(Stdio::piped())
-        .stderr(Stdio::piped())
-        .spawn()
-        .unwrap();
-    child.stdin.take().unwrap().write_all(input).unwrap();
-    child.wait_with_output().unwrap()
-}
-
-fn printed(words: &[&str], input: &[u8]) -> String {
-    let output = second(words, input);
-    assert!(output.status.success(), "{words:?}");
-    String::from_utf8(output.stdout).unwrap()
-}
 
 #[test]
 fn run_and_state() {
@@ -39,30 +20,9 @@ fn run_and_state() {
     assert_eq!(printed(&["state"], &bytes[1..]), hex(&fresh()));
 }
 
-/// A folder for images, gone at the end.
-struct Room(PathBuf);
-
-impl Room {
-    fn new() -> Room {
-        let path = std::env::temp_dir().join(format!("second-{}", std::process::id()));
-        std::fs::create_dir_all(&path).unwrap();
-        Room(path)
-    }
-
-    fn file(&self, name: &str) -> String {
-        self.0.join(name).to_str().unwrap().into()
-    }
-}
-
-impl Drop for Room {
-    fn drop(&mut self) {
-        let _ = std::fs::remove_dir_all(&self.0);
-    }
-}
-
 #[test]
 fn run_from_an_image_and_to_one() {
-    let room = Room::new();
+    let room = Room::new("run");
     let [kept, other] = ["kept", "other"].map(|name| room.file(name));
     let bytes = journal(&nine());
     assert_eq!(printed(&["run", "", &kept], &bytes), program_output(&bytes));

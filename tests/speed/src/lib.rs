@@ -4,4 +4,5 @@ pub mod cases;
 pub mod clock;
 pub mod engine;
 pub mod machines;
+pub mod parts;
 pub mod same;

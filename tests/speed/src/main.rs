@@ -6,7 +6,8 @@ use std::process::ExitCode;
 use ration::{journal, Host, HEADER, RECORD};
 use speed::cases::{self, Case, RECORDS};
 use speed::clock::{side_by_side, Timed, Times, ROUNDS};
-use speed::machines;
+use speed::machines::{self, Named};
+use speed::parts::{InJournals, InPieces};
 use speed::same::run_all;
 
 fn main() -> ExitCode {
@@ -40,15 +41,15 @@ fn measure(cases: &[Case]) -> Result<(), String> {
     Ok(())
 }
 
-/// The case's journal on each machine, where they do the same; and on the proved one a journal without a record, which says what a run
-/// costs before its first one, nearly all of it the test of validity.
+/// The case's journal on each machine, where they do the same; on the proved one a journal without a record, which says what a run
+/// costs before its first one, nearly all of it the test of validity; and there the journal in parts.
 fn prepare(case: &Case) -> Result<Vec<Timed>, String> {
     let mut machines = machines::fresh();
     for journal in [&case.before, &case.timed] {
         run_all(&mut machines, journal, journal.len())
             .map_err(|what| format!("{}: {what}", case.what))?;
     }
-    let start = Box::new(Host::from_bytes(machines[0].1.bytes()));
+    let start = Host::from_bytes(machines[0].1.bytes());
     let timed = |name, machine, journal: &[u8]| Timed {
         case: case.what,
         name,
@@ -57,8 +58,23 @@ fn prepare(case: &Case) -> Result<Vec<Timed>, String> {
     };
     let runs = machines.into_iter().map(|(name, machine)| timed(name, machine, &case.timed));
     let mut all: Vec<Timed> = runs.collect();
-    all.insert(1, timed("  without a record", start, &journal(&[])));
+    all.insert(1, timed("  without a record", Box::new(start.clone()), &journal(&[])));
+    for (name, machine) in in_parts(case, &start)?.into_iter().skip(1).rev() {
+        all.insert(2, timed(name, machine, &case.timed));
+    }
     Ok(all)
+}
+
+/// The proved machine on the case's journal whole, as short journals and as pieces of one, where these do the same.
+fn in_parts(case: &Case, start: &Host) -> Result<Vec<Named>, String> {
+    let mut machines: Vec<Named> = vec![
+        ("whole", Box::new(start.clone())),
+        ("  in journals of 512", Box::new(InJournals::new(start.clone(), &case.timed))),
+        ("  in pieces of 512", Box::new(InPieces::new(start.clone()))),
+    ];
+    run_all(&mut machines, &case.timed, case.timed.len())
+        .map_err(|what| format!("{}: {what}", case.what))?;
+    Ok(machines)
 }
 
 fn tell(timed: &Timed, found: &Times) {

@@ -1,6 +1,9 @@
 //! What the tests share: a machine with short names, and journals.
 #![allow(dead_code)]
 
+pub mod binary;
+pub mod pieces;
+
 use second::hex::from_hex;
 use second::{fresh, step, valid, State, HEADER};
 

@@ -1,0 +1,4 @@
+pub mod Bytes
+pub mod AtHand
+pub mod Feeding
+pub mod Answers
