@@ -66,6 +66,6 @@ def journal(records):
 
 
 def program(*words):
-    """The command that runs the program itself, without ./rpj: its words are the image to start from and the one to save, or none, and behind both of
-    them `stream`. It says its status on descriptor 3, which nobody reads here."""
+    """The command that runs the program itself, without ./rpj: its words are the image to start from and the one to save, `stream` and `through`, each
+    empty for none; those behind the last that is not empty may be left out. It says its status on descriptor 3, which nobody reads here."""
     return ["sh", "-c", 'exec sh "$@" 3>/dev/null', "sh", ROOT / "tools/start", ROOT / "target/bin/rpj", *words]

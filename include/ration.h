@@ -6,7 +6,7 @@
  * The proofs assume of a caller what Rust's references do. For each pointer: it is not null, it stays good for the call, and it
  * leads to exactly as many bytes as its parameter says (a length may be 0, and its pointer is then still not null; a size_t is
  * aligned). No byte that a function writes (a parameter without const) is part of another parameter, or used by another thread
- * during the call, and no byte that it reads changes meanwhile. Nothing is assumed of the bytes themselves: any 4,754 bytes are a
+ * during the call, and no byte that it reads changes meanwhile. Nothing is assumed of the bytes themselves: any 4,755 bytes are a
  * state, any 9 what is kept, any bytes a record, a journal, a piece of one or an image, and each has its answer.
  * No function keeps a pointer, allocates or fails. */
 #ifndef RATION_H
@@ -22,7 +22,7 @@ extern "C" {
 
 /* Sizes in bytes, and the places of the bytes. A number of 32 bits stands low byte first. */
 enum {
-    RATION_SIZE = 4754, /* a state; ration_size() answers it */
+    RATION_SIZE = 4755, /* a state; ration_size() answers it */
 
     RATION_RECORD = 8,       /* a record; bytes that its kind and call do not use are 0 */
     RATION_RECORD_KIND = 0,  /* RATION_KIND_.. */
@@ -50,17 +50,18 @@ enum {
     RATION_KEPT_BEGUN = 1,  /* how many bytes of a begun record are kept, 0 to 7: at the end of the input, those left over */
     RATION_KEPT_BYTES = 2,  /* these bytes, and zeros behind them */
 
-    RATION_IMAGE = 4759,         /* an image, of version 1; ration_image_size() answers it */
-    RATION_IMAGE_MARK_AT = 0,    /* the letters RPS */
-    RATION_IMAGE_VERSION_AT = 3, /* 16 bits, low byte first */
-    RATION_IMAGE_STATE_AT = 5    /* after RATION_IMAGE_FIRST_BYTES the fields of the state, to the end */
+    RATION_IMAGE = 4760,              /* an image as it is saved, of version 2; ration_image_size() answers it */
+    RATION_IMAGE_OF_VERSION_1 = 4759, /* one of version 1, which has no policy: it is loaded still, as write-back */
+    RATION_IMAGE_MARK_AT = 0,         /* the letters RPS */
+    RATION_IMAGE_VERSION_AT = 3,      /* 16 bits, low byte first */
+    RATION_IMAGE_STATE_AT = 5         /* the fields of the state, to the end; those of version 1 without the last, the policy */
 };
 
 /* A journal's first bytes: the mark, version 1 as 16 bits, three zeros. memcpy(journal, RATION_HEADER_BYTES, RATION_HEADER) */
 #define RATION_HEADER_BYTES "RPJ\001\000\000\000\000"
 
-/* An image's first bytes: the mark, version 1 as 16 bits. memcmp(image, RATION_IMAGE_FIRST_BYTES, RATION_IMAGE_STATE_AT) */
-#define RATION_IMAGE_FIRST_BYTES "RPS\001\000"
+/* A saved image's first bytes: the mark, version 2 as 16 bits. memcmp(image, RATION_IMAGE_FIRST_BYTES, RATION_IMAGE_STATE_AT) */
+#define RATION_IMAGE_FIRST_BYTES "RPS\002\000"
 
 /* How many there are of each; each counts from 0. A virtual address (va) is what guests read and write, a physical one (pa) says
  * which of a guest's own pages is meant. */
@@ -117,12 +118,20 @@ enum ration_pin {
     RATION_PIN_TABLE = 1 /* a table of the guest's addresses; it is empty */
 };
 
-/* The number of an answer or of a report, and what feeding, saving and loading answer. Checks run in this order, and the first that
- * applies is the answer; but loading checks 16 before 1. 1 to 12 are a record's, 1 and 13 to 15 a journal's, 1, 13 and 15 a piece's,
- * 1 and 16 an image's. A page is shared from when two addresses lead to it at once until it is unpinned. */
+/* The write policy of a host: when what is written to a page in the cache reaches memory. No record changes it, and the answers to
+ * the same records are the same under both, from the fresh machine on. */
+enum ration_write_policy {
+    RATION_WRITE_BACK = 0,   /* when its line is taken out of the cache */
+    RATION_WRITE_THROUGH = 1 /* at once */
+};
+
+/* The number of an answer or of a report, and what starting with a policy, feeding, saving and loading answer. Checks run in this
+ * order, and the first that applies is the answer; but loading checks 16 before 1. 1 to 12 are a record's, 1 and 13 to 15 a
+ * journal's, 1, 13 and 15 a piece's, 1 and 16 an image's, 1 a policy's. A page is shared from when two addresses lead to it at
+ * once until it is unpinned. */
 enum ration_number {
-    RATION_DONE = 0,                      /* the record was done, the journal or the piece was run, or the image was saved or loaded */
-    RATION_REFUSED_STATE = 1,             /* the state is not valid; of a record, a journal, a piece of one or an image */
+    RATION_DONE = 0,                      /* the record, the run of a journal or a piece, the save, the load or the start was done */
+    RATION_REFUSED_STATE = 1,             /* the state, or the one in the image, is not valid; starting: there is no such policy */
     RATION_REFUSED_RECORD = 2,            /* not 8 bytes, unknown kind or call, argument out of range, unused byte not 0 */
     RATION_REFUSED_MODE = 3,              /* a guest's action while the host has control, or the host's while a guest runs */
     RATION_REFUSED_CALL = 4,              /* the call is not exactly this one; chmod, switch: the guest has one; drop: it has none */
@@ -148,10 +157,17 @@ size_t ration_report_size(void);
 size_t ration_image_size(void);
 size_t ration_kept_size(void);
 
-/* Makes the state the fresh machine, whatever its bytes were. */
+/* Makes the state the fresh machine, whatever its bytes were. Its policy is write-back. */
 void ration_fresh(uint8_t state[RATION_SIZE]);
 
-/* Whether the state is valid, by the ten rules. */
+/* Makes the state the fresh machine with this policy, RATION_WRITE_.., whatever its bytes were, and answers RATION_DONE.
+ * RATION_REFUSED_STATE if policy is another number: state is then as it was. */
+uint8_t ration_fresh_with(uint8_t state[RATION_SIZE], uint8_t policy);
+
+/* The state's policy: RATION_WRITE_.. if the state is valid, and else perhaps another number. */
+uint8_t ration_policy(const uint8_t state[RATION_SIZE]);
+
+/* Whether the state is valid, by the eleven rules. */
 bool ration_valid(const uint8_t state[RATION_SIZE]);
 
 /* How many pages the state's map marks as free. */
@@ -184,15 +200,15 @@ void ration_begin(uint8_t kept[RATION_KEPT]);
 uint8_t ration_feed(uint8_t state[RATION_SIZE], uint8_t kept[RATION_KEPT], const uint8_t *piece, size_t length, size_t allowance,
                     bool last, uint8_t *answers, size_t room, size_t *records, size_t *bytes);
 
-/* Writes the whole state to image, which has length bytes, and answers RATION_DONE; the state stays as it was. RATION_REFUSED_STATE
- * if the state is not valid, then RATION_REFUSED_IMAGE if length is not RATION_IMAGE: image is then as it was. Whoever keeps the image
- * in a file writes a new file beside the old one, syncs it, renames it and syncs the folder, as ./rpj does: a loss of power then
- * leaves one of them. */
+/* Writes the whole state, with its policy, to image, which has length bytes, and answers RATION_DONE; the state stays as it was.
+ * RATION_REFUSED_STATE if the state is not valid, then RATION_REFUSED_IMAGE if length is not RATION_IMAGE: image is then as it was.
+ * Whoever keeps the image in a file writes a new file beside the old one, syncs it, renames it and syncs the folder, as ./rpj does: a
+ * loss of power then leaves one of them. */
 uint8_t ration_save(const uint8_t state[RATION_SIZE], uint8_t *image, size_t length);
 
-/* Makes the state the one that the image of length bytes holds, whatever its bytes were, and answers RATION_DONE.
- * RATION_REFUSED_IMAGE if these bytes are no image, then RATION_REFUSED_STATE if the state that it holds is not valid: state is then
- * as it was. */
+/* Makes the state the one that the image of length bytes holds, whatever its bytes were, and answers RATION_DONE. The policy is the
+ * image's, and write-back where its version is 1. RATION_REFUSED_IMAGE if these bytes are no image of either version, then
+ * RATION_REFUSED_STATE if the state that it holds is not valid: state is then as it was. */
 uint8_t ration_load(uint8_t state[RATION_SIZE], const uint8_t *image, size_t length);
 
 #ifdef __cplusplus

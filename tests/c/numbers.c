@@ -6,7 +6,9 @@
 
 #include "ration.h"
 
-enum { KINDS = RATION_KIND_DROP + 1, NUMBERS = RATION_REFUSED_IMAGE + 1, HOST_PAGES = 4 };
+enum { KINDS = RATION_KIND_DROP + 1, NUMBERS = RATION_REFUSED_IMAGE + 1, POLICIES = RATION_WRITE_THROUGH + 1, HOST_PAGES = 4 };
+/* of docs/STATE.md: page 8, the first one that is pinned, in memory; and the policy */
+enum { MEMORY_OF_8 = 4434 + 4 * 8, POLICY = RATION_SIZE - 1 };
 
 static uint8_t state[RATION_SIZE];
 static uint8_t report[RATION_REPORT];
@@ -105,9 +107,39 @@ static void reserved_addresses(void) {
     same("RATION_FIRST_HOST_VA", "reserved as 15 is", RATION_FIRST_HOST_VA % 8 == RATION_STEALTH, false);
 }
 
-/* Every kind and every call, on one machine from the fresh one on. Physical 3 has no page, so that a for b is seen. */
-static void kinds(void) {
+/* Starting with this policy answers this number: the state is the fresh machine but for its policy, or as it was. */
+static void starts(const char *what, uint8_t policy, int number) {
+    static uint8_t expected[RATION_SIZE];
+    memset(state, 170, sizeof state);
+    memcpy(expected, state, sizeof state);
+    if (number == RATION_DONE) {
+        ration_fresh(expected);
+        expected[POLICY] = policy;
+    }
+    same(what, "the number", ration_fresh_with(state, policy), (uint32_t)number);
+    same(what, "the state", memcmp(state, expected, sizeof state) == 0, true);
+}
+
+/* Each byte as a policy to start with, and in a state. */
+static void policies(void) {
+    char what[32];
     ration_fresh(state);
+    same("ration_fresh", "ration_policy()", ration_policy(state), RATION_WRITE_BACK);
+    for (int policy = 0; policy < 256; policy++) {
+        bool is_one = policy == RATION_WRITE_BACK || policy == RATION_WRITE_THROUGH;
+        snprintf(what, sizeof what, "policy %d", policy);
+        starts(what, (uint8_t)policy, is_one ? RATION_DONE : RATION_REFUSED_STATE);
+        ration_fresh(state);
+        state[POLICY] = (uint8_t)policy;
+        same(what, "ration_policy()", ration_policy(state), (uint32_t)policy);
+        same(what, "valid", ration_valid(state), is_one);
+    }
+}
+
+/* Every kind and every call, on one machine from the fresh one on, with the same answers under each policy. Physical 3 has no page, so that a
+ * for b is seen. */
+static void kinds(uint8_t policy) {
+    ration_fresh_with(state, policy);
     DOES(SILENT, 0, 0);
     SERVES(PIN, 2, RATION_PIN_DATA);
     SERVES(NEW, 3, 2);
@@ -142,6 +174,7 @@ static void kinds(void) {
     DOES(DROP, 0, 0);
     DOES(CHMOD, 0, 0);
     same("after every kind", "valid", ration_valid(state), true);
+    same("after every kind", "the policy", ration_policy(state), policy);
 }
 
 /* Two guests call, and both calls are declined. Only the named guest's call changes: in the end all is as if they had not called. */
@@ -279,13 +312,21 @@ static void answers_image(const char *what, bool saves, size_t length, int numbe
 #define SAVES(number, length) answers_image("save " #length ": " #number, true, length, RATION_##number)
 #define LOADS(number, length) answers_image("load " #length ": " #number, false, length, RATION_##number)
 
-/* A page of guest 0 with 300, saved, and loaded over a damaged state. */
-static void images(void) {
-    static uint8_t kept[RATION_SIZE];
-    ration_fresh(state);
+/* The nine records of examples/nine.rpj: under write-through memory has 300 at once. */
+static void nine(uint8_t policy) {
+    ration_fresh_with(state, policy);
     SERVES(PIN, 1, RATION_PIN_DATA);
     SERVES(NEW, 0, 1);
     WRITES(WRITE, 0, 300);
+    READS(READ, 0, 300);
+    REFUSES(UNMAPPED, READ, 1, 0);
+    same("the nine records", "300 in memory", word(state + MEMORY_OF_8) == 300, policy == RATION_WRITE_THROUGH);
+}
+
+/* The host of the nine records, saved, and loaded over a damaged state. */
+static void images(uint8_t policy) {
+    static uint8_t kept[RATION_SIZE];
+    nine(policy);
     memcpy(kept, state, sizeof kept);
     memset(image, 255, sizeof image);
     SAVES(REFUSED_IMAGE, RATION_IMAGE - 1);
@@ -295,7 +336,7 @@ static void images(void) {
     same("RATION_IMAGE", "the byte behind it", image[RATION_IMAGE], 255);
     same("RATION_IMAGE_FIRST_BYTES", "the first bytes", memcmp(image, RATION_IMAGE_FIRST_BYTES, RATION_IMAGE_STATE_AT) == 0, true);
     same("RATION_IMAGE_MARK_AT", "the mark", memcmp(image + RATION_IMAGE_MARK_AT, "RPS", RATION_IMAGE_VERSION_AT - RATION_IMAGE_MARK_AT) == 0, true);
-    same("RATION_IMAGE_VERSION_AT", "the version", image[RATION_IMAGE_VERSION_AT] | image[RATION_IMAGE_VERSION_AT + 1] << 8, 1);
+    same("RATION_IMAGE_VERSION_AT", "the version", image[RATION_IMAGE_VERSION_AT] | image[RATION_IMAGE_VERSION_AT + 1] << 8, 2);
     same("RATION_IMAGE_STATE_AT", "the state", memcmp(image + RATION_IMAGE_STATE_AT, state, sizeof state) == 0, true);
     same("RATION_IMAGE_STATE_AT", "its bytes", RATION_IMAGE - RATION_IMAGE_STATE_AT, RATION_SIZE);
     memset(state, 255, sizeof state);
@@ -305,6 +346,48 @@ static void images(void) {
     LOADS(DONE, RATION_IMAGE);
     same("what was loaded", "is what was saved", memcmp(state, kept, sizeof kept) == 0, true);
     READS(READ, 0, 300);
+}
+
+/* An image of version 1, made of a saved one: it ends before the policy, and its host is write-back. Saved again, it is of version 2. Each of
+ * the two versions has one length, and there is no other. */
+static void version_1(uint8_t policy) {
+    static uint8_t kept[RATION_SIZE], saved[sizeof image];
+    char what[32];
+    nine(policy);
+    SAVES(DONE, RATION_IMAGE);
+    LOADS(REFUSED_IMAGE, RATION_IMAGE_OF_VERSION_1);
+    memcpy(saved, image, sizeof saved);
+    memcpy(kept, state, sizeof kept);
+    saved[RATION_IMAGE_STATE_AT + POLICY] = kept[POLICY] = RATION_WRITE_BACK;
+    memset(state, 255, sizeof state);
+    image[RATION_IMAGE_VERSION_AT] = 1;
+    LOADS(REFUSED_IMAGE, RATION_IMAGE);
+    LOADS(DONE, RATION_IMAGE_OF_VERSION_1);
+    same("what version 1 holds", "the state", memcmp(state, kept, sizeof kept) == 0, true);
+    SAVES(DONE, RATION_IMAGE);
+    same("what version 1 holds", "its image", memcmp(image, saved, sizeof saved) == 0, true);
+    for (int version = 0; version < 256; version++) {
+        snprintf(what, sizeof what, "version %d", version);
+        image[RATION_IMAGE_VERSION_AT] = (uint8_t)version;
+        answers_image(what, false, RATION_IMAGE, version == 2 ? RATION_DONE : RATION_REFUSED_IMAGE);
+        answers_image(what, false, RATION_IMAGE_OF_VERSION_1, version == 1 ? RATION_DONE : RATION_REFUSED_IMAGE);
+    }
+}
+
+/* Each byte as the policy of a saved image: where memory has not what a line has, write-through is refused. */
+static void other_policies(uint8_t policy) {
+    char what[48];
+    nine(policy);
+    SAVES(DONE, RATION_IMAGE);
+    for (int other = 0; other < 256; other++) {
+        bool valid = other == RATION_WRITE_BACK || other == policy;
+        snprintf(what, sizeof what, "policy %d in an image of policy %d", other, policy);
+        image[RATION_IMAGE_STATE_AT + POLICY] = (uint8_t)other;
+        answers_image(what, false, RATION_IMAGE, valid ? RATION_DONE : RATION_REFUSED_STATE);
+        if (valid) {
+            same(what, "ration_policy()", ration_policy(state), (uint32_t)other);
+        }
+    }
 }
 
 /* What is wrong in an image, and in a state that is saved; each check before the next. */
@@ -344,12 +427,17 @@ int main(void) {
     if (differences == 0) {
         ranges();
         reserved_addresses();
-        kinds();
+        policies();
+        for (uint8_t policy = 0; policy < POLICIES; policy++) {
+            kinds(policy);
+            images(policy);
+            version_1(policy);
+            other_policies(policy);
+        }
         declined();
         refusals();
         no_free_page();
         reports();
-        images();
         refused_images();
         all_met();
     }

@@ -35,6 +35,16 @@ void ration_fresh(uint8_t state[RATION_SIZE]) {
     abort();
 }
 
+uint8_t ration_fresh_with(uint8_t state[RATION_SIZE], uint8_t policy) {
+    (void)state, (void)policy;
+    abort();
+}
+
+uint8_t ration_policy(const uint8_t state[RATION_SIZE]) {
+    (void)state;
+    abort();
+}
+
 bool ration_valid(const uint8_t state[RATION_SIZE]) {
     (void)state;
     abort();

@@ -1,5 +1,6 @@
 /* Holds ration_begin and ration_feed to docs/HOST.md, "Journals in pieces": a journal that is cut anywhere, with any allowance, is run as
- * ration_run runs it whole, and a call that is refused leaves what it must. A line for each difference, and status 1. It is C and C++. */
+ * ration_run runs it whole, under each write policy, and a call that is refused leaves what it must. A line for each difference, and status 1. It is
+ * C and C++. */
 #include <stdio.h>
 #include <string.h>
 
@@ -23,6 +24,7 @@ static const uint8_t journal[LENGTH] = {
     11, 12, 13, 14, 15,
 };
 
+static uint8_t policy; /* of the hosts that are started */
 static uint8_t state[RATION_SIZE], kept[RATION_KEPT];
 static uint8_t answers[ROOM + RATION_ANSWER];                 /* of one call, and what must stay */
 static uint8_t told[ROOM];                                    /* of all calls since anew() */
@@ -48,7 +50,7 @@ static size_t smaller(size_t a, size_t b) {
 
 /* The fresh machine, and no byte of a journal taken. */
 static void anew(void) {
-    ration_fresh(state);
+    ration_fresh_with(state, policy);
     ration_begin(kept);
     run_before = 0;
     memset(told, UNTOUCHED, sizeof told);
@@ -118,7 +120,7 @@ static void sizes(void) {
 
 static void whole(void) {
     uint8_t report[RATION_REPORT];
-    ration_fresh(whole_state);
+    ration_fresh_with(whole_state, policy);
     ration_run(whole_state, journal, LENGTH, whole_answers, ROOM, report);
     same("the journal", "the report's number", report[RATION_REPORT_NUMBER], RATION_DONE);
     same("the journal", "taken", report[RATION_REPORT_TAKEN], RECORDS);
@@ -272,7 +274,7 @@ static void damaged(void) {
 int main(void) {
     sizes();
     /* bytes of other sizes are not lent */
-    if (differences == 0) {
+    for (policy = RATION_WRITE_BACK; policy <= RATION_WRITE_THROUGH && differences == 0; policy++) {
         whole();
         begins();
         cuts();

@@ -10,6 +10,8 @@ extern "C" {
     pub fn ration_image_size() -> usize;
     pub fn ration_kept_size() -> usize;
     pub fn ration_fresh(state: *mut [u8; SIZE]);
+    pub fn ration_fresh_with(state: *mut [u8; SIZE], policy: u8) -> u8;
+    pub fn ration_policy(state: *const [u8; SIZE]) -> u8;
     pub fn ration_valid(state: *const [u8; SIZE]) -> bool;
     pub fn ration_free_pages(state: *const [u8; SIZE]) -> u32;
     pub fn ration_step(

@@ -2,14 +2,14 @@
 
 use crate::answers::REPORT;
 use crate::archive as c;
-use crate::{Action, Answer, Fed, Kept, Refusal, Report, ANSWER};
+use crate::{Action, Answer, Fed, Kept, Refusal, Report, WritePolicy, ANSWER};
 
 /// The bytes of a state.
-pub const SIZE: usize = 4754;
-/// The bytes of an image.
-pub const IMAGE_SIZE: usize = 4759;
+pub const SIZE: usize = 4755;
+/// The bytes of an image as [`Host::save`] makes it, of version 2.
+pub const IMAGE_SIZE: usize = 4760;
 
-/// What feeding, saving and loading answer: a number, 0 for done.
+/// What starting with a policy, feeding, saving and loading answer: a number, 0 for done.
 fn done(number: u8) -> Result<(), Refusal> {
     Refusal::from_number(number.into()).map_or(Ok(()), Err)
 }
@@ -19,7 +19,7 @@ fn done(number: u8) -> Result<(), Refusal> {
 pub struct Host(Box<[u8; SIZE]>);
 
 impl Default for Host {
-    /// The fresh machine.
+    /// The same as [`Host::fresh`].
     fn default() -> Host {
         Host::fresh()
     }
@@ -34,7 +34,7 @@ impl Host {
         Host(bytes)
     }
 
-    /// The fresh machine.
+    /// The fresh machine, with write-back.
     ///
     /// # Panics
     ///
@@ -42,6 +42,26 @@ impl Host {
     pub fn fresh() -> Host {
         let mut host = Host::of(Box::new([0; SIZE]));
         unsafe { c::ration_fresh(&mut *host.0) };
+        host
+    }
+
+    /// The fresh machine with this policy.
+    ///
+    /// ```
+    /// use ration::{Host, WritePolicy};
+    ///
+    /// let host = Host::fresh_with(WritePolicy::Through);
+    /// assert_eq!(host.policy(), Some(WritePolicy::Through));
+    /// assert_eq!(Host::fresh(), Host::fresh_with(WritePolicy::Back));
+    /// ```
+    ///
+    /// # Panics
+    ///
+    /// If `libration.a` was built with other sizes than this package.
+    pub fn fresh_with(policy: WritePolicy) -> Host {
+        let mut host = Host::of(Box::new([0; SIZE]));
+        done(unsafe { c::ration_fresh_with(&mut *host.0, policy.number()) })
+            .expect("libration.a has both policies");
         host
     }
 
@@ -59,7 +79,13 @@ impl Host {
         &self.0
     }
 
-    /// Whether the state is valid, by the ten rules. From a valid state every action leads to a valid state.
+    /// The state's policy, the same from [`Host::fresh_with`] on until an image is loaded. `None` if its number is no policy's: such a
+    /// state is not valid.
+    pub fn policy(&self) -> Option<WritePolicy> {
+        WritePolicy::from_number(unsafe { c::ration_policy(&*self.0) })
+    }
+
+    /// Whether the state is valid, by the eleven rules. From a valid state every action leads to a valid state.
     pub fn valid(&self) -> bool {
         unsafe { c::ration_valid(&*self.0) }
     }
@@ -148,17 +174,18 @@ impl Host {
         Ok(Fed { records, bytes })
     }
 
-    /// The whole state as an image, to be kept in a file and handed to [`Host::load`] later (`docs/IMAGE.md` has its layout). Equal
-    /// states have equal images. Refused with [`Refusal::State`] if the state is not valid.
+    /// The whole state, with its policy, as an image, to be kept in a file and handed to [`Host::load`] later (`docs/IMAGE.md` has its
+    /// layout). Equal states have equal images. Refused with [`Refusal::State`] if the state is not valid.
     pub fn save(&self) -> Result<[u8; IMAGE_SIZE], Refusal> {
         let mut image = [0; IMAGE_SIZE];
         done(unsafe { c::ration_save(&*self.0, image.as_mut_ptr(), image.len()) })?;
         Ok(image)
     }
 
-    /// Makes the state the one that the image holds, whatever it was before: any bytes, of any length. Refused with
-    /// [`Refusal::Image`] if they are no image, then with [`Refusal::State`] if the state that the image holds is not valid; the
-    /// state is then as it was.
+    /// Makes the state the one that the image holds, whatever it was before: any bytes, of any length. The policy is the image's; one
+    /// of version 1, a byte shorter, has none and is loaded as [`WritePolicy::Back`]. Refused with [`Refusal::Image`] if the bytes are
+    /// no image of either version, then with [`Refusal::State`] if the state that the image holds is not valid; the state is then as
+    /// it was.
     pub fn load(&mut self, image: &[u8]) -> Result<(), Refusal> {
         done(unsafe { c::ration_load(&mut *self.0, image.as_ptr(), image.len()) })
     }

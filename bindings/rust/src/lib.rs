@@ -1,7 +1,7 @@
 //! The ration host: a state that owns its bytes, actions and answers by their names, and the proved functions over them.
 //!
 //! `docs/HOST.md` of the repository has the rules: what each [`Action`] does, and when each [`Refusal`] is given. [`Host::run`] runs a journal
-//! that is at hand, a [`Feeder`] one that is read as it arrives.
+//! that is at hand, a [`Feeder`] one that is read as it arrives. [`Host::fresh_with`] starts a host with a [`WritePolicy`].
 //!
 //! ```
 //! use ration::{Action, Answer, Call, Guest, Host, Pa, PinKind, Refusal, Va};
@@ -35,10 +35,12 @@ mod archive;
 mod feeder;
 mod host;
 mod pieces;
+mod policy;
 mod records;
 
 pub use answers::{Answer, Refusal, Report, Unknown, ANSWER};
 pub use feeder::{FeedError, Feeder};
 pub use host::{Host, IMAGE_SIZE, SIZE};
 pub use pieces::{Fed, Kept, KEPT_SIZE};
+pub use policy::WritePolicy;
 pub use records::{journal, Action, Call, Guest, Pa, PinKind, Va, HEADER, RECORD};

@@ -3,8 +3,8 @@
 use std::collections::{BTreeSet, HashSet};
 
 use ration::{
-    journal, Action, Answer, Call, Guest, Host, Pa, PinKind, Refusal, Report, Va, ANSWER, HEADER,
-    IMAGE_SIZE, RECORD, SIZE,
+    journal, Action, Answer, Call, Guest, Host, Pa, PinKind, Refusal, Report, Va, WritePolicy,
+    ANSWER, HEADER, IMAGE_SIZE, RECORD, SIZE,
 };
 
 /// A guest asks, and the host does it and lets the guest run on.
@@ -60,14 +60,17 @@ fn script() -> Vec<(Action, u32)> {
 
 #[test]
 fn every_kind_is_accepted() {
-    let mut host = Host::fresh();
-    let mut kinds = BTreeSet::new();
-    for (action, value) in script() {
-        assert_eq!(host.act(action), Answer::Done(value), "{action}");
-        kinds.insert(action.record()[0]);
+    for policy in WritePolicy::ALL {
+        let mut host = Host::fresh_with(policy);
+        let mut kinds = BTreeSet::new();
+        for (action, value) in script() {
+            assert_eq!(host.act(action), Answer::Done(value), "{policy}: {action}");
+            kinds.insert(action.record()[0]);
+        }
+        assert!(kinds.into_iter().eq(0..=15));
+        assert!(host.valid());
+        assert_eq!(host.policy(), Some(policy));
     }
-    assert!(kinds.into_iter().eq(0..=15));
-    assert!(host.valid());
 }
 
 #[test]
@@ -85,15 +88,17 @@ fn the_same_as_a_journal() {
 /// Between any two actions of the script: a host that is saved, and loaded over another, is the same, and goes on as it would have.
 #[test]
 fn saved_and_loaded_at_every_place() {
-    let mut host = Host::fresh();
-    for (action, value) in script() {
-        let image = host.save().unwrap();
-        let mut other = Host::from_bytes([255; SIZE]);
-        assert_eq!(other.load(&image), Ok(()));
-        assert_eq!(other, host);
-        assert_eq!(other.save(), Ok(image));
-        assert_eq!(other.act(action), Answer::Done(value), "{action}");
-        host = other;
+    for policy in WritePolicy::ALL {
+        let mut host = Host::fresh_with(policy);
+        for (action, value) in script() {
+            let image = host.save().unwrap();
+            let mut other = Host::from_bytes([255; SIZE]);
+            assert_eq!(other.load(&image), Ok(()));
+            assert_eq!(other, host);
+            assert_eq!(other.save(), Ok(image));
+            assert_eq!(other.act(action), Answer::Done(value), "{policy}: {action}");
+            host = other;
+        }
     }
 }
 
@@ -187,7 +192,7 @@ fn of_records() -> Vec<Refusal> {
 
 fn of_a_damaged_state() -> Vec<Refusal> {
     let mut bytes = *Host::fresh().bytes();
-    bytes[SIZE - 1] = 1; // the value of an empty line
+    bytes[SIZE - 2] = 1; // the value of an empty line
     let mut host = Host::from_bytes(bytes);
     assert!(!host.valid());
     assert_eq!(host.act(Action::Silent), Answer::Refused(Refusal::State));
@@ -232,7 +237,7 @@ fn of_images() -> Vec<Refusal> {
         places.iter().for_each(|place| other[*place] = 1);
         other
     };
-    let (mark, line) = (0, IMAGE_SIZE - 1); // a letter, and the value of an empty line
+    let (mark, line) = (0, IMAGE_SIZE - 2); // a letter, and the value of an empty line
     let refused = [
         (Refusal::State, with(&[line])),
         (Refusal::Image, with(&[mark])),

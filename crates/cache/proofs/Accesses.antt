@@ -29,7 +29,7 @@ use Rattle.cache.specs.declared.Set.{Set}
 use Rattle.cache.specs.declared.Purpose.{Purpose}
 use Rattle.cache.specs.declared.Purpose.the-variants.{Read, Write}
 use Rattle.cache.specs.Sets.{lineWith, lineFrom, setFrom, emptyLine, lineTo, wayIn, findIn, placeIn, replacedIn, usedIn, enteredIn}
-use Rattle.cache.specs.Lines.{putWhole, putBack, accessed, missed, found, after, accessedFor, Accesses}
+use Rattle.cache.specs.Lines.{putWhole, putBack, accessed, missed, found, after, storedIn, lineFor, AccessesLine}
 use Rattle.cache.proofs.Sets.{way-is, find-is-hit, place-is-way}
 use Rattle.cache.proofs.Whole.{history-kept, put-back-history, put-back-replaced}
 
@@ -115,12 +115,12 @@ module _ (s : State) (va p : ℕ) where
 -- ---- what is found, and what is stored
 
 module _ (s : State) (va p : ℕ) where
-  found-memory : isCacheable (s .shape) p ≡ false → at (s .values .memory) p ≡ found s va p
+  pub found-memory : isCacheable (s .shape) p ≡ false → at (s .values .memory) p ≡ found s va p
   unfolding found
   found-memory c = rw c
 
-  stored-memory : (n : ℕ) → isCacheable (s .shape) p ≡ false → length (s .values .line) ≡ lines → putMemory s p n ≡ store s va p n
-  unfolding putMemory store
+  pub stored-memory : (n : ℕ) → isCacheable (s .shape) p ≡ false → length (s .values .line) ≡ lines → putMemory s p n ≡ storedIn s va p n
+  unfolding putMemory storedIn store hitWay
   stored-memory n c l =
       let e = set-out (s .values .line) noLine n (omega arith) in
       rw c (λ i. record { shape = s .shape; values = record { memory = set (s .values .memory) p n; line = sym e i } })
@@ -133,8 +133,8 @@ module _ (s : State) (va p : ℕ) where
         ap (at (s .values .line)) i ∙ sym (pick-yes (at (s .values .line) (lineOf (s .shape) va p)) (at (s .values .memory) p) c)
 
     stored-line : (n w : ℕ) → hitWay (s .shape) va p ≡ w → w < ways → length (s .values .memory) ≡ pages
-        → putLine s (lineAt (setOf va) w) n ≡ store s va p n
-    unfolding putLine store
+        → putLine s (lineAt (setOf va) w) n ≡ storedIn s va p n
+    unfolding putLine storedIn store hitWay
     stored-line n w e h m =
         let o = set-out (s .values .memory) nowhere n (omega arith) in
         rw (c, e, lt-ltb w ways h) (λ i. record { shape = s .shape; values = record { memory = sym o i; line = set (s .values .line) (lineAt (setOf va) w) n } })
@@ -143,16 +143,16 @@ module _ (s : State) (va p : ℕ) where
     unfolding found
     found-nowhere e l = rw (c, e) (sym (at-past (s .values .line) noLine (omega arith)))
 
-    stored-nowhere : (n : ℕ) → hitWay (s .shape) va p ≡ ways → length (s .values .memory) ≡ pages → length (s .values .line) ≡ lines → s ≡ store s va p n
-    unfolding store
+    stored-nowhere : (n : ℕ) → hitWay (s .shape) va p ≡ ways → length (s .values .memory) ≡ pages → length (s .values .line) ≡ lines → s ≡ storedIn s va p n
+    unfolding storedIn store hitWay
     stored-nowhere n e m l =
         let o = set-out (s .values .memory) nowhere n (omega arith) in
         let q = set-out (s .values .line) noLine n (omega arith) in
         rw (c, e) (λ i. record { shape = s .shape; values = record { memory = sym o i; line = sym q i } })
 
   -- what is found, stored there again
-  store-found : length (s .values .memory) ≡ pages → length (s .values .line) ≡ lines → store s va p (found s va p) ≡ s
-  unfolding store found
+  store-found : length (s .values .memory) ≡ pages → length (s .values .line) ≡ lines → storedIn s va p (found s va p) ≡ s
+  unfolding storedIn store hitWay found
   store-found m l =
       let v = s .values in
       let i = lineOf (s .shape) va p in
@@ -167,7 +167,7 @@ module _ (s : State) (va p : ℕ) where
 -- ---- an access for a purpose
 
 module _ (s : State) (va p : ℕ) (z : Sized s) where
-  accessed-memory : length (accessed s va p .values .memory) ≡ pages
+  pub accessed-memory : length (accessed s va p .values .memory) ≡ pages
   unfolding accessed takeOut enter
   accessed-memory = length-set (s .values .memory) _ _ ∙ z .memory
 
@@ -175,22 +175,16 @@ module _ (s : State) (va p : ℕ) (z : Sized s) where
   unfolding accessed takeOut enter
   accessed-line = length-set (set (s .values .line) _ 0) _ _ ∙ length-set (s .values .line) _ 0 ∙ z .line
 
-  accesses : (q : Purpose) (v : ℕ) (t u : State) → accessed s va p ≡ t → v ≡ found t va p → u ≡ store t va p (after q v) → Accesses s va p q v u
-  unfolding accessedFor
+  pub accesses : (q : Purpose) (v : ℕ) (t u : State) → accessed s va p ≡ t → v ≡ found t va p → u ≡ storedIn t va p (after q v) → AccessesLine s va p q v u
+  unfolding lineFor
   accesses Read v t u a e f =
       let b = e ∙ ap (λ (x : State). found x va p) (sym a) in
       record {
         value = b;
-        state = f ∙ (λ j. store (sym a j) va p (b j)) ∙ store-found (accessed s va p) va p accessed-memory accessed-line;
+        state = f ∙ (λ j. storedIn (sym a j) va p (b j)) ∙ store-found (accessed s va p) va p accessed-memory accessed-line;
       }
   accesses (Write n) v t u a e f =
-      record { value = e ∙ ap (λ (x : State). found x va p) (sym a); state = f ∙ ap (λ (x : State). store x va p n) (sym a) }
-
-  pub access-memory : isCacheable (s .shape) p ≡ false → (q : Purpose) (v n : ℕ) (u : State) → v ≡ at (s .values .memory) p → n ≡ after q v → u ≡ putMemory s p n
-      → Accesses s va p q v u
-  access-memory c q v n u e f g =
-      accesses q v s u (access-none s va p z c) (e ∙ found-memory s va p c)
-      (g ∙ ap (putMemory s p) f ∙ stored-memory s va p (after q v) c (z .line))
+      record { value = e ∙ ap (λ (x : State). found x va p) (sym a); state = f ∙ ap (λ (x : State). storedIn x va p n) (sym a) }
 
 -- ---- the code's steps, with what is in between: x is the set of va
 
@@ -222,7 +216,7 @@ module _ (s : State) (va p : ℕ) (z : Sized s) (c : isCacheable (s .shape) p �
   pub access-hits : (w : ℕ) → w ≡ findIn x va p → w < ways → (q : Purpose) (o : Line) (n : ℕ) (y t : Set) (u : State) → o ≡ pick (ltb w ways) (wayIn x w) emptyLine
       → n ≡ after q (o .value)
       → y ≡ replacedIn x w (lineWith (o .address .0) (o .page .0) n) → t ≡ usedIn y w → u ≡ putBack s (setOf va) t
-      → Accesses s va p q (o .value) u
+      → AccessesLine s va p q (o .value) u
   unfolding putWhole
   access-hits w ew h q o n y t u eo en ey et eu =
       let k = setOf va in
@@ -324,7 +318,7 @@ module _ (s : State) (va p : ℕ) (z : Sized s) (c : isCacheable (s .shape) p �
         → y ≡ replacedIn x w l
         → t ≡ enteredIn y w
         → u ≡ putBack r (setOf va) t
-        → Accesses s va p q v u
+        → AccessesLine s va p q v u
     unfolding putMemory missed takeOut enter
     access-misses h q v n o r l y t u eo er ev en el ey et eu =
         let k = setOf va in
@@ -340,7 +334,7 @@ module _ (s : State) (va p : ℕ) (z : Sized s) (c : isCacheable (s .shape) p �
         (eu ∙ (λ j. putBack (er′ j) k (et′ j)) ∙ put-back-replaced d k w (entered (at (s .shape .cache .history) k) w) to h ∙ miss-put (after q v)
         ∙ stored-line b va p c (after q v) w (entered-there h) h missed-memory)
 
-    pub access-past : ways ≤ w → (q : Purpose) (u : State) → u ≡ missed s (setOf va) w va p → Accesses s va p q 0 u
+    pub access-past : ways ≤ w → (q : Purpose) (u : State) → u ≡ missed s (setOf va) w va p → AccessesLine s va p q 0 u
     unfolding missed takeOut enter
     access-past h q u eu =
         let b = missed s (setOf va) w va p in

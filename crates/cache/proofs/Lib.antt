@@ -3,3 +3,4 @@ pub mod Whole
 pub mod Accesses
 pub mod Cleared
 pub mod Answers
+pub mod Through

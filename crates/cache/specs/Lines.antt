@@ -9,12 +9,13 @@ use lib.ListN.{set}
 use Rattle.laws.specs.Choice.{pick, at}
 use Rattle.laws.specs.Search.{listOf}
 use Rattle.model.specs.Sizes.{ways, lines}
-use Rattle.model.specs.State.{Shape, State, isCacheable, lineAt, lineOf}
+use Rattle.model.specs.Names.{writeBack}
+use Rattle.model.specs.State.{Shape, State, isCacheable, isThrough, lineAt, lineOf}
 use Rattle.model.specs.History.{entered}
-use Rattle.model.specs.Parts.{shaped, withCache, setLine, setHistory, takeOut, enter}
+use Rattle.model.specs.Parts.{shaped, withPolicy, withCache, setLine, setHistory, takeOut, enter}
 use Rattle.model.specs.Read.{missLine, accessHistory}
 use Rattle.model.specs.Write.{store}
-use Rattle.host.specs.View.{put, historyField}
+use Rattle.host.specs.View.{put, putMemory, historyField}
 use Rattle.cache.specs.declared.Line.{Line}
 use Rattle.cache.specs.declared.Set.{Set}
 use Rattle.cache.specs.declared.Purpose.{Purpose}
@@ -61,6 +62,24 @@ found s va p = pick (isCacheable (s .shape) p) (at (s .values .line) (lineOf (s 
 abbrev pub after : Purpose → ℕ → ℕ
 after Read v = v
 after (Write n) v = n
+
+-- the line, or memory if the page is not cacheable, holds n: what `store` does under write-back
+unfoldable pub storedIn : State → ℕ → ℕ → ℕ → State
+storedIn s va p n = record { shape = s .shape; values = store (shaped s (withPolicy (s .shape) writeBack)) va p n .values }
+
+unfoldable pub lineFor : Purpose → State → ℕ → ℕ → State
+lineFor Read s va p = accessed s va p
+lineFor (Write n) s va p = storedIn (accessed s va p) va p n
+
+-- an access but for write-through
+pub record AccessesLine (s : State) (va p : ℕ) (x : Purpose) (v : ℕ) (t : State) : Type 0 where
+  pub value : v ≡ found (accessed s va p) va p
+  pub state : t ≡ lineFor x s va p
+
+-- and under write-through memory holds what is written too
+unfoldable pub throughFor : Purpose → State → ℕ → State
+throughFor Read s p = s
+throughFor (Write n) s p = pick (isThrough (s .shape)) (putMemory s p n) s
 
 -- the state after an access for a purpose
 unfoldable pub accessedFor : Purpose → State → ℕ → ℕ → State

@@ -26,7 +26,7 @@ ghost use Rattle.model.specs.State.{lead, isPage, isCacheable, lineOfPage, pres
 ghost use Rattle.model.specs.Parts.{takeOut, takeOutPage, enter};
 ghost use Rattle.host.specs.View.{view, putMemory};
 ghost use Rattle.cache.specs.Sets.{setFrom, findIn, emptyLine, lineTo};
-ghost use Rattle.cache.specs.Lines.{putWhole, after, missed, Accesses, isOf, clearedBelow};
+ghost use Rattle.cache.specs.Lines.{putWhole, after, missed, AccessesLine, throughFor, Accesses, isOf, clearedBelow};
 
 // ---- one line
 
@@ -111,7 +111,7 @@ fn miss_past(h: &mut Host, k: usize, s: Set, w: usize, a: Va, p: Ma)
 // A line of a cacheable page enters set k, which is s, and the one in its way is taken out.
 fn miss(h: &mut Host, k: usize, s: Set, a: Va, p: Ma, x: Purpose) -> u32
     requires { ⌜ (k ≡ setOf (a .0)) × (isCacheable (view (now h) .shape) (p .0) ≡ true) × (s ≡ setFrom (view (now h)) k) × (ways ≤ findIn s (a .0) (p .0)) ⌝ }
-    ensures { λ r. ⌜ Accesses (view (now (h .entry))) (a .0) (p .0) x r (view (now (h .exit))) ⌝ }
+    ensures { λ r. ⌜ AccessesLine (view (now (h .entry))) (a .0) (p .0) x r (view (now (h .exit))) ⌝ }
 {
     host::whole(h);
     let w = place(s);
@@ -131,7 +131,7 @@ fn miss(h: &mut Host, k: usize, s: Set, a: Va, p: Ma, x: Purpose) -> u32
 
 fn access_set(h: &mut Host, a: Va, p: Ma, x: Purpose) -> u32
     requires { ⌜ isCacheable (view (now h) .shape) (p .0) ≡ true ⌝ }
-    ensures { λ r. ⌜ Accesses (view (now (h .entry))) (a .0) (p .0) x r (view (now (h .exit))) ⌝ }
+    ensures { λ r. ⌜ AccessesLine (view (now (h .entry))) (a .0) (p .0) x r (view (now (h .exit))) ⌝ }
 {
     host::whole(h);
     let k = a.0 as usize % host::SETS;
@@ -155,13 +155,29 @@ fn access_set(h: &mut Host, a: Va, p: Ma, x: Purpose) -> u32
     }
 }
 
+// Under write-through what is written goes to memory too, whether the access hit or missed.
+fn write_through(h: &mut Host, p: Ma, x: Purpose)
+    ensures { λ _. ⌜ view (now (h .exit)) ≡ throughFor x (view (now (h .entry))) (p .0) ⌝ }
+{
+    match x {
+        Purpose::Read => {}
+        Purpose::Write(n) => {
+            if host::policy(h) == host::WRITE_THROUGH {
+                host::set_memory(h, p, n);
+            }
+        }
+    }
+}
+
 // The cache's part of a read or a write of page p at address a, and the value there before what is written. A page not cacheable changes no line.
 pub fn access(h: &mut Host, a: Va, p: Ma, x: Purpose) -> u32
     ensures { λ r. ⌜ Accesses (view (now (h .entry))) (a .0) (p .0) x r (view (now (h .exit))) ⌝ }
 {
     host::whole(h);
     if host::cacheable(h, p) == host::CACHEABLE {
-        access_set(h, a, p, x)
+        let v = access_set(h, a, p, x);
+        write_through(h, p, x);
+        v
     } else {
         let v = host::memory(h, p);
         host::set_memory(h, p, kept(x, v));

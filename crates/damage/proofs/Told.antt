@@ -1,4 +1,4 @@
--- The table of damaged states with all ten rules, by computation.
+-- The table of damaged states with all eleven rules, by computation.
 -- Assumes nothing.
 use mathlib.Core.Path.{_≡_, refl, sym, ap, _∙_, subst}
 use mathlib.Core.Bool.{Bool, true, false, _&&_, _||_, not, Bool·beq, false≢true}
@@ -10,9 +10,9 @@ use Rattle.laws.specs.Choice.{at}
 use Rattle.laws.specs.Search.{firstFrom, seekFrom, listFrom, someIn, allIn}
 use Rattle.laws.specs.Bits.{bit, marked, unmarked}
 use Rattle.model.specs.State.{State, table, mapsPage, hitWay, lineOfPage, present}
-use Rattle.model.specs.Fresh.{freshPages, freshGuests, freshCache, fresh}
+use Rattle.model.specs.Fresh.{freshPages, freshGuests, freshCache, freshWith, fresh}
 use Rattle.model.specs.Records.{decode}
-use Rattle.model.specs.RuleTests.{rule1?, rule2?, rule3?, rule4?, rule5?, mapsTwice, rule6?, rule7?, rule8?, rule9?, columns, rule10?}
+use Rattle.model.specs.RuleTests.{rule1?, rule2?, rule3?, rule4?, rule5?, mapsTwice, rule6?, rule7?, rule8?, rule9?, columns, rule10?, rule11?}
 use Rattle.model.specs.Valid.{sized?, valid?}
 use Rattle.model.specs.Checks.{hasEntries, lowestFree, asked}
 use Rattle.model.specs.Parts.{takeOut, takeOutPage, enter, wayFor}
@@ -27,7 +27,7 @@ use Rattle.model.specs.Step.{Outcome, numberOf, valueOf, ownChecks, refusal, ne
 use Rattle.model.specs.Journal.{hasHeader, formRefusal, journalRefusal}
 use Rattle.model.specs.Samples.{Exchange, passes}
 use Rattle.model.specs.Damage.{ruleTests, ruleTest, Change, change, changedBy, changed, Damage}
-use Rattle.model.specs.Damaged.{freshCalls, freshOwners, freshAddresses, freshMapped, freshNumbers, inUse, usedEntries, usedLines, usedSlots, allDamaged, damaged}
+use Rattle.model.specs.Damaged.{freshCalls, freshOwners, freshAddresses, freshMapped, freshNumbers, inUse, usedEntries, usedLines, usedSlots, usedPolicies, allDamaged, damaged}
 use Rattle.damage.specs.Told.{told, validEnds, freshJudged}
 
 -- ---- rule 6, which costs most, is computed where a change touches the lists that it reads, and is the base's elsewhere
@@ -87,44 +87,48 @@ all-told s ds h = ap (λ (f : ℕ → Damage → Bool). allIn f ds) (λ k i d. c
 -- ---- parts of the table, each small enough for one computation
 
 fresh-six : ruleTest 6 fresh ≡ true
-unfolding firstFrom seekFrom listFrom bit marked unmarked table mapsPage freshPages freshGuests freshCache fresh rule1? rule2? rule3? rule4? rule5? mapsTwice rule6? rule7? rule8? rule9? columns rule10? sized? ruleTests
+unfolding firstFrom seekFrom listFrom bit marked unmarked table mapsPage freshPages freshGuests freshCache freshWith rule1? rule2? rule3? rule4? rule5? mapsTwice rule6? rule7? rule8? rule9? columns rule10? rule11? sized? ruleTests
 fresh-six = refl
 
 calls-told : allCheap fresh freshCalls ≡ true
-unfolding firstFrom seekFrom listFrom bit marked unmarked table mapsPage freshPages freshGuests freshCache fresh rule1? rule2? rule3? rule4? rule5? mapsTwice rule6? rule7? rule8? rule9? columns rule10? sized? ruleTests changed told toldBy cheap touched allCheap freshCalls
+unfolding firstFrom seekFrom listFrom bit marked unmarked table mapsPage freshPages freshGuests freshCache freshWith rule1? rule2? rule3? rule4? rule5? mapsTwice rule6? rule7? rule8? rule9? columns rule10? rule11? sized? ruleTests changed told toldBy cheap touched allCheap freshCalls
 calls-told = refl
 
 owners-told : allCheap fresh freshOwners ≡ true
-unfolding firstFrom seekFrom listFrom bit marked unmarked table mapsPage freshPages freshGuests freshCache fresh rule1? rule2? rule3? rule4? rule5? mapsTwice rule6? rule7? rule8? rule9? columns rule10? sized? ruleTests changed told toldBy cheap touched allCheap freshOwners
+unfolding firstFrom seekFrom listFrom bit marked unmarked table mapsPage freshPages freshGuests freshCache freshWith rule1? rule2? rule3? rule4? rule5? mapsTwice rule6? rule7? rule8? rule9? columns rule10? rule11? sized? ruleTests changed told toldBy cheap touched allCheap freshOwners
 owners-told = refl
 
 addresses-told : allCheap fresh freshAddresses ≡ true
-unfolding firstFrom seekFrom listFrom bit marked unmarked table mapsPage freshPages freshGuests freshCache fresh rule1? rule2? rule3? rule4? rule5? mapsTwice rule6? rule7? rule8? rule9? columns rule10? sized? ruleTests changed told toldBy cheap touched allCheap freshAddresses
+unfolding firstFrom seekFrom listFrom bit marked unmarked table mapsPage freshPages freshGuests freshCache freshWith rule1? rule2? rule3? rule4? rule5? mapsTwice rule6? rule7? rule8? rule9? columns rule10? rule11? sized? ruleTests changed told toldBy cheap touched allCheap freshAddresses
 addresses-told = refl
 
 mapped-told : allCheap fresh freshMapped ≡ true
-unfolding firstFrom seekFrom listFrom bit marked unmarked table mapsPage freshPages freshGuests freshCache fresh rule1? rule2? rule3? rule4? rule5? mapsTwice rule6? rule7? rule8? rule9? columns rule10? sized? ruleTests changed told toldBy cheap touched allCheap freshMapped
+unfolding firstFrom seekFrom listFrom bit marked unmarked table mapsPage freshPages freshGuests freshCache freshWith rule1? rule2? rule3? rule4? rule5? mapsTwice rule6? rule7? rule8? rule9? columns rule10? rule11? sized? ruleTests changed told toldBy cheap touched allCheap freshMapped
 mapped-told = refl
 
 numbers-told : allCheap fresh freshNumbers ≡ true
-unfolding firstFrom seekFrom listFrom bit marked unmarked table mapsPage freshPages freshGuests freshCache fresh rule1? rule2? rule3? rule4? rule5? mapsTwice rule6? rule7? rule8? rule9? columns rule10? sized? ruleTests changed told toldBy cheap touched allCheap freshNumbers
+unfolding firstFrom seekFrom listFrom bit marked unmarked table mapsPage freshPages freshGuests freshCache freshWith rule1? rule2? rule3? rule4? rule5? mapsTwice rule6? rule7? rule8? rule9? columns rule10? rule11? sized? ruleTests changed told toldBy cheap touched allCheap freshNumbers
 numbers-told = refl
 
 used-six : passes judge fresh inUse (ruleTest 6) ≡ true
-unfolding firstFrom seekFrom listFrom bit marked unmarked table mapsPage freshPages freshGuests freshCache fresh rule1? rule2? rule3? rule4? rule5? mapsTwice rule6? rule7? rule8? rule9? columns rule10? sized? hitWay lineOfPage present decode hasEntries lowestFree asked takeOut takeOutPage enter wayFor accessWay missLine accessHistory readStep store writeStep share newStep newSmStep hcallStep chmodStep pinStep ownChecks refusal next value act judge passes ruleTests
+unfolding firstFrom seekFrom listFrom bit marked unmarked table mapsPage freshPages freshGuests freshCache freshWith rule1? rule2? rule3? rule4? rule5? mapsTwice rule6? rule7? rule8? rule9? columns rule10? rule11? sized? hitWay lineOfPage present decode hasEntries lowestFree asked takeOut takeOutPage enter wayFor accessWay missLine accessHistory readStep store writeStep share newStep newSmStep hcallStep chmodStep pinStep ownChecks refusal next value act judge passes ruleTests
 used-six = refl
 
 entries-told : passes judge fresh inUse (λ s. allCheap s usedEntries) ≡ true
-unfolding firstFrom seekFrom listFrom bit marked unmarked table mapsPage freshPages freshGuests freshCache fresh rule1? rule2? rule3? rule4? rule5? mapsTwice rule6? rule7? rule8? rule9? columns rule10? sized? hitWay lineOfPage present decode hasEntries lowestFree asked takeOut takeOutPage enter wayFor accessWay missLine accessHistory readStep store writeStep share newStep newSmStep hcallStep chmodStep pinStep ownChecks refusal next value act judge passes ruleTests changed told toldBy cheap touched allCheap usedEntries
+unfolding firstFrom seekFrom listFrom bit marked unmarked table mapsPage freshPages freshGuests freshCache freshWith rule1? rule2? rule3? rule4? rule5? mapsTwice rule6? rule7? rule8? rule9? columns rule10? rule11? sized? hitWay lineOfPage present decode hasEntries lowestFree asked takeOut takeOutPage enter wayFor accessWay missLine accessHistory readStep store writeStep share newStep newSmStep hcallStep chmodStep pinStep ownChecks refusal next value act judge passes ruleTests changed told toldBy cheap touched allCheap usedEntries
 entries-told = refl
 
 lines-told : passes judge fresh inUse (λ s. allCheap s usedLines) ≡ true
-unfolding firstFrom seekFrom listFrom bit marked unmarked table mapsPage freshPages freshGuests freshCache fresh rule1? rule2? rule3? rule4? rule5? mapsTwice rule6? rule7? rule8? rule9? columns rule10? sized? hitWay lineOfPage present decode hasEntries lowestFree asked takeOut takeOutPage enter wayFor accessWay missLine accessHistory readStep store writeStep share newStep newSmStep hcallStep chmodStep pinStep ownChecks refusal next value act judge passes ruleTests changed told toldBy cheap touched allCheap usedLines
+unfolding firstFrom seekFrom listFrom bit marked unmarked table mapsPage freshPages freshGuests freshCache freshWith rule1? rule2? rule3? rule4? rule5? mapsTwice rule6? rule7? rule8? rule9? columns rule10? rule11? sized? hitWay lineOfPage present decode hasEntries lowestFree asked takeOut takeOutPage enter wayFor accessWay missLine accessHistory readStep store writeStep share newStep newSmStep hcallStep chmodStep pinStep ownChecks refusal next value act judge passes ruleTests changed told toldBy cheap touched allCheap usedLines
 lines-told = refl
 
 slots-told : passes judge fresh inUse (λ s. allCheap s usedSlots) ≡ true
-unfolding firstFrom seekFrom listFrom bit marked unmarked table mapsPage freshPages freshGuests freshCache fresh rule1? rule2? rule3? rule4? rule5? mapsTwice rule6? rule7? rule8? rule9? columns rule10? sized? hitWay lineOfPage present decode hasEntries lowestFree asked takeOut takeOutPage enter wayFor accessWay missLine accessHistory readStep store writeStep share newStep newSmStep hcallStep chmodStep pinStep ownChecks refusal next value act judge passes ruleTests changed told toldBy cheap touched allCheap usedSlots
+unfolding firstFrom seekFrom listFrom bit marked unmarked table mapsPage freshPages freshGuests freshCache freshWith rule1? rule2? rule3? rule4? rule5? mapsTwice rule6? rule7? rule8? rule9? columns rule10? rule11? sized? hitWay lineOfPage present decode hasEntries lowestFree asked takeOut takeOutPage enter wayFor accessWay missLine accessHistory readStep store writeStep share newStep newSmStep hcallStep chmodStep pinStep ownChecks refusal next value act judge passes ruleTests changed told toldBy cheap touched allCheap usedSlots
 slots-told = refl
+
+policies-told : passes judge fresh inUse (λ s. allCheap s usedPolicies) ≡ true
+unfolding firstFrom seekFrom listFrom bit marked unmarked table mapsPage freshPages freshGuests freshCache freshWith rule1? rule2? rule3? rule4? rule5? mapsTwice rule6? rule7? rule8? rule9? columns rule10? rule11? sized? hitWay lineOfPage present decode hasEntries lowestFree asked takeOut takeOutPage enter wayFor accessWay missLine accessHistory readStep store writeStep share newStep newSmStep hcallStep chmodStep pinStep ownChecks refusal next value act judge passes ruleTests changed told toldBy cheap touched allCheap usedPolicies
+policies-told = refl
 
 -- ---- the table
 
@@ -146,6 +150,10 @@ used-told : (ds : List Damage) → passes judge fresh inUse (λ s. allCheap s ds
 used-told ds e =
     both-pass judge fresh inUse (ruleTest 6) (λ s. allCheap s ds) (λ s. allDamaged told s ds) (λ r a b. sym (all-told r ds a) ∙ b) used-six e
 
+-- two parts of the table as one
+also : (t u : State → Bool) → passes judge fresh inUse t ≡ true → passes judge fresh inUse u ≡ true → passes judge fresh inUse (λ s. t s && u s) ≡ true
+also t u = both-pass judge fresh inUse t u (λ s. t s && u s) (λ r a b. rw (a, b))
+
 -- on each row exactly the rules that it lists are broken
 pub damage-told : damaged told ≡ true
 unfolding damaged
@@ -157,19 +165,18 @@ damage-told =
       sym (all-told fresh freshMapped fresh-six) ∙ mapped-told,
       sym (all-told fresh freshNumbers fresh-six) ∙ numbers-told,
     )
-    (both-pass judge fresh inUse (λ s. allDamaged told s usedEntries && allDamaged told s usedLines) (λ s. allDamaged told s usedSlots)
-    (λ s. allDamaged told s usedEntries && allDamaged told s usedLines && allDamaged told s usedSlots) (λ r a b. rw (a, b) refl)
-    (both-pass judge fresh inUse (λ s. allDamaged told s usedEntries) (λ s. allDamaged told s usedLines)
-    (λ s. allDamaged told s usedEntries && allDamaged told s usedLines) (λ r a b. rw (a, b) refl)
-    (used-told usedEntries entries-told) (used-told usedLines lines-told))
+    (also (λ s. allDamaged told s usedEntries && allDamaged told s usedLines && allDamaged told s usedSlots) (λ s. allDamaged told s usedPolicies)
+    (also (λ s. allDamaged told s usedEntries && allDamaged told s usedLines) (λ s. allDamaged told s usedSlots)
+    (also (λ s. allDamaged told s usedEntries) (λ s. allDamaged told s usedLines) (used-told usedEntries entries-told) (used-told usedLines lines-told))
     (used-told usedSlots slots-told))
+    (used-told usedPolicies policies-told))
 
 -- ---- valid states
 
 pub valid-ends : validEnds ≡ true
-unfolding firstFrom seekFrom listFrom bit marked unmarked table mapsPage freshPages freshGuests freshCache fresh rule1? rule2? rule3? rule4? rule5? mapsTwice rule6? rule7? rule8? rule9? columns rule10? sized? hitWay lineOfPage present decode hasEntries lowestFree asked takeOut takeOutPage enter wayFor accessWay missLine accessHistory readStep store writeStep share newStep newSmStep hcallStep chmodStep pinStep ownChecks refusal next value act judge passes valid? validEnds
+unfolding firstFrom seekFrom listFrom bit marked unmarked table mapsPage freshPages freshGuests freshCache freshWith rule1? rule2? rule3? rule4? rule5? mapsTwice rule6? rule7? rule8? rule9? columns rule10? rule11? sized? hitWay lineOfPage present decode hasEntries lowestFree asked takeOut takeOutPage enter wayFor accessWay missLine accessHistory readStep store writeStep share newStep newSmStep hcallStep chmodStep pinStep ownChecks refusal next value act judge passes valid? validEnds
 valid-ends = refl
 
 pub fresh-judged : freshJudged ≡ true
-unfolding firstFrom seekFrom listFrom bit marked unmarked table mapsPage freshPages freshGuests freshCache fresh rule1? rule2? rule3? rule4? rule5? mapsTwice rule6? rule7? rule8? rule9? columns rule10? sized? valid? decode judge step hasHeader formRefusal journalRefusal freshJudged
+unfolding firstFrom seekFrom listFrom bit marked unmarked table mapsPage freshPages freshGuests freshCache freshWith rule1? rule2? rule3? rule4? rule5? mapsTwice rule6? rule7? rule8? rule9? columns rule10? rule11? sized? valid? decode judge step hasHeader formRefusal journalRefusal freshJudged
 fresh-judged = refl

@@ -2,10 +2,11 @@
 -- Assumes nothing.
 use mathlib.Core.Path.{_≡_, refl, sym, ap, ap₂, subst, _∙_}
 use mathlib.Core.List.{List, [], _∷_, map}
-use Prim.Native.Nat.{ℕ}
+use Prim.Native.Nat.{ℕ, _<_}
 use Rattle.laws.proofs.Search.{Each}
+use Rattle.model.specs.Sizes.{policies}
 use Rattle.model.specs.State.{State}
-use Rattle.model.specs.Fresh.{fresh}
+use Rattle.model.specs.Fresh.{freshWith}
 use Rattle.model.specs.Records.{Bytes}
 use Rattle.model.specs.Step.{numberOf, valueOf, step}
 use Rattle.model.specs.Step as model
@@ -51,10 +52,12 @@ module _ {b : Book} {s : State} {past : Past} {u : State} (k : Kept b s past u) 
   steps-answer =
       subst (λ (l : List model.Answer). map valueOf l ≡ valuesAfter b past rs (map numberOf l)) same-answers (rations-on k rs w .answers)
 
-pub fresh-keep : (rs : List (List ℕ)) → Each Bytes rs → (xs : List Answer) (t : State) → Folds fresh rs xs t
-    → Kept freshBook fresh (pastAfter [] rs (map numberOf (map answerFrom xs))) t
-fresh-keep = steps-keep fresh-kept
+-- from the fresh machine, with any policy
+module _ (policy : ℕ) (known : policy < policies) where
+  pub fresh-keep : (rs : List (List ℕ)) → Each Bytes rs → (xs : List Answer) (t : State) → Folds (freshWith policy) rs xs t
+      → Kept freshBook (freshWith policy) (pastAfter [] rs (map numberOf (map answerFrom xs))) t
+  fresh-keep = steps-keep (fresh-kept policy known)
 
-pub fresh-answer : (rs : List (List ℕ)) → Each Bytes rs → (xs : List Answer) (t : State) → Folds fresh rs xs t
-    → map valueOf (map answerFrom xs) ≡ valuesAfter freshBook [] rs (map numberOf (map answerFrom xs))
-fresh-answer = steps-answer fresh-kept
+  pub fresh-answer : (rs : List (List ℕ)) → Each Bytes rs → (xs : List Answer) (t : State) → Folds (freshWith policy) rs xs t
+      → map valueOf (map answerFrom xs) ≡ valuesAfter freshBook [] rs (map numberOf (map answerFrom xs))
+  fresh-answer = steps-answer (fresh-kept policy known)

@@ -3,11 +3,11 @@
 -- Assumes nothing.
 use mathlib.Core.Path.{_≡_, sym, ap, subst, _∙_}
 use mathlib.Core.List.{List, [], _∷_, _++_}
-use Prim.Native.Nat.{ℕ}
+use Prim.Native.Nat.{ℕ, _<_}
 use Rattle.laws.proofs.Search.{Each}
-use Rattle.model.specs.Sizes.{headerBytes}
+use Rattle.model.specs.Sizes.{policies, headerBytes}
 use Rattle.model.specs.State.{State}
-use Rattle.model.specs.Fresh.{fresh}
+use Rattle.model.specs.Fresh.{freshWith}
 use Rattle.model.specs.Records.{Bytes}
 use Rattle.model.specs.Valid.{Valid}
 use Rattle.model.specs.Run.{run}
@@ -40,11 +40,11 @@ pub guaranteed : {s : State} → Valid s → {b : Book} → Agrees s b → (j : 
     → Runs s j buffer (Done r) t c → Guarantee b s [] j headerBytes (r .taken) t c
 guaranteed v a = journal-on (kept-first v a)
 
--- The theorem to quote: a journal of any bytes, run on the fresh machine.
-pub fresh-guaranteed : (x y j buffer c : List ℕ) (r : Report) → view x ≡ fresh → Bytes j → Runs (view x) j buffer (Done r) (view y) c
-    → Guarantee freshBook fresh [] j headerBytes (r .taken) (view y) c
-fresh-guaranteed x y j buffer c r e w p =
-    journal-on fresh-kept j w buffer (subst (λ (s : State). Runs s j buffer (Done r) (view y) c) e p)
+-- The theorem to quote: a journal of any bytes, run on the fresh machine with any policy.
+pub fresh-guaranteed : (policy : ℕ) → policy < policies → (x y j buffer c : List ℕ) (r : Report) → view x ≡ freshWith policy → Bytes j
+    → Runs (view x) j buffer (Done r) (view y) c → Guarantee freshBook (freshWith policy) [] j headerBytes (r .taken) (view y) c
+fresh-guaranteed policy known x y j buffer c r e w p =
+    journal-on (fresh-kept policy known) j w buffer (subst (λ (s : State). Runs s j buffer (Done r) (view y) c) e p)
 
 -- ---- journals one after another
 
@@ -76,7 +76,7 @@ pub all-guaranteed : {s : State} → Valid s → {b : Book} → Agrees s b → (
     → AllGuarantee b s [] xs t
 all-guaranteed v a = journals-on (kept-first v a)
 
--- The theorem to quote: journals of any bytes, one after another from the fresh machine on.
-pub fresh-all : (x y : List ℕ) (xs : List Turn) → view x ≡ fresh → Each (λ x. Bytes (x .journal)) xs → Turns (view x) xs (view y)
-    → AllGuarantee freshBook fresh [] xs (view y)
-fresh-all x y xs e w p = journals-on fresh-kept xs w (subst (λ (s : State). Turns s xs (view y)) e p)
+-- The theorem to quote: journals of any bytes, one after another from the fresh machine on, with any policy.
+pub fresh-all : (policy : ℕ) → policy < policies → (x y : List ℕ) (xs : List Turn) → view x ≡ freshWith policy → Each (λ x. Bytes (x .journal)) xs
+    → Turns (view x) xs (view y) → AllGuarantee freshBook (freshWith policy) [] xs (view y)
+fresh-all policy known x y xs e w p = journals-on (fresh-kept policy known) xs w (subst (λ (s : State). Turns s xs (view y)) e p)

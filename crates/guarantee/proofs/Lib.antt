@@ -6,3 +6,4 @@ pub mod Folds
 pub mod Resumes
 pub mod Pieces
 pub mod Images
+pub mod Policies

@@ -3,10 +3,11 @@
 use mathlib.Core.Path.{_≡_, subst, _∙_}
 use mathlib.Core.Bool.{true}
 use mathlib.Core.List.{List, []}
-use Prim.Native.Nat.{ℕ}
+use Prim.Native.Nat.{ℕ, _<_}
 use Rattle.laws.proofs.Cases.{pick-yes}
+use Rattle.model.specs.Sizes.{policies}
 use Rattle.model.specs.State.{State}
-use Rattle.model.specs.Fresh.{fresh}
+use Rattle.model.specs.Fresh.{freshWith}
 use Rattle.model.specs.Records.{Bytes}
 use Rattle.model.specs.Valid.{Valid, valid?}
 use Rattle.model.specs.Run.{Ran, run}
@@ -38,8 +39,8 @@ pub part-guaranteed : {s : State} → Valid s → {b : Book} → Agrees s b → 
     → {n k : ℕ} {t : State} {c : List ℕ} → Runs s j start buffer (Took n k) t c → Guarantee b s [] j start n t c
 part-guaranteed v a = part-on (kept-first v a)
 
--- The theorem to quote: records of any bytes, from any place on, run on the fresh machine.
-pub fresh-part : (x y j : List ℕ) (start : ℕ) (buffer c : List ℕ) (n k : ℕ) → view x ≡ fresh → Bytes j
-    → Runs (view x) j start buffer (Took n k) (view y) c → Guarantee freshBook fresh [] j start n (view y) c
-fresh-part x y j start buffer c n k e w p =
-    part-on fresh-kept j w start buffer (subst (λ (s : State). Runs s j start buffer (Took n k) (view y) c) e p)
+-- The theorem to quote: records of any bytes, from any place on, run on the fresh machine with any policy.
+pub fresh-part : (policy : ℕ) → policy < policies → (x y j : List ℕ) (start : ℕ) (buffer c : List ℕ) (n k : ℕ) → view x ≡ freshWith policy → Bytes j
+    → Runs (view x) j start buffer (Took n k) (view y) c → Guarantee freshBook (freshWith policy) [] j start n (view y) c
+fresh-part policy known x y j start buffer c n k e w p =
+    part-on (fresh-kept policy known) j w start buffer (subst (λ (s : State). Runs s j start buffer (Took n k) (view y) c) e p)

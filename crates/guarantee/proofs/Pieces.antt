@@ -3,13 +3,13 @@
 -- Assumes nothing.
 use mathlib.Core.Path.{_≡_, sym, ap, subst, _∙_}
 use mathlib.Core.List.{List, [], _++_, append-nil}
-use Prim.Native.Nat.{ℕ, _*_}
+use Prim.Native.Nat.{ℕ, _*_, _<_}
 use lib.ListN.{length}
 use lib.Seq.{drop-nil}
 use Rattle.laws.proofs.Search.{Each}
-use Rattle.model.specs.Sizes.{answerBytes, headerBytes}
+use Rattle.model.specs.Sizes.{policies, answerBytes, headerBytes}
 use Rattle.model.specs.State.{State}
-use Rattle.model.specs.Fresh.{fresh}
+use Rattle.model.specs.Fresh.{freshWith}
 use Rattle.model.specs.Records.{Bytes}
 use Rattle.model.specs.Valid.{Valid}
 use Rattle.model.specs.Step.{Answer}
@@ -45,7 +45,9 @@ pub fed-guaranteed : {s : State} → Valid s → {b : Book} → Agrees s b → (
     → Guarantee b s [] (takenBy xs) headerBytes (taken (takenBy xs)) t (answersBy xs)
 fed-guaranteed v a = fed-on (kept-first v a)
 
--- The theorem to quote: a journal of any bytes, fed in any pieces to the fresh machine.
-pub fresh-fed : (x y l : List ℕ) (xs : List Call) → view x ≡ fresh → Each (λ x. Bytes (x .piece)) xs → Calls (view x) beginning xs (view y) l
-    → Guarantee freshBook fresh [] (takenBy xs) headerBytes (taken (takenBy xs)) (view y) (answersBy xs)
-fresh-fed x y l xs e w c = fed-on fresh-kept xs w l (subst (λ (s : State). Calls s beginning xs (view y) l) e c)
+-- The theorem to quote: a journal of any bytes, fed in any pieces to the fresh machine with any policy.
+pub fresh-fed : (policy : ℕ) → policy < policies → (x y l : List ℕ) (xs : List Call) → view x ≡ freshWith policy → Each (λ x. Bytes (x .piece)) xs
+    → Calls (view x) beginning xs (view y) l
+    → Guarantee freshBook (freshWith policy) [] (takenBy xs) headerBytes (taken (takenBy xs)) (view y) (answersBy xs)
+fresh-fed policy known x y l xs e w c =
+    fed-on (fresh-kept policy known) xs w l (subst (λ (s : State). Calls s beginning xs (view y) l) e c)

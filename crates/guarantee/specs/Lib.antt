@@ -1,3 +1,4 @@
 pub mod Guarantee
 pub mod Resumes
 pub mod Images
+pub mod Policies

@@ -9,7 +9,7 @@ use Prim.Native.Nat.{ℕ, zero, suc, _+_, _*_, _<_}
 use native.Mathlib.Omega.{arith}
 use lib.Dec.{ltb, eqb}
 use borrow.Author.Tests.{eqb-true, eq-eqb, ne-eqb, lt-ltb}
-use Rattle.laws.specs.Choice.{at, _⇔_}
+use Rattle.laws.specs.Choice.{at}
 use Rattle.laws.specs.Search.{firstBelow}
 use Rattle.laws.proofs.Cases.{split, below?}
 use Rattle.laws.proofs.Tests.{eq⇔, lt⇔, and⇔, not⇔}

@@ -1,4 +1,4 @@
--- The fresh machine and the fresh book agree, and each guest owns one page.
+-- The fresh machine, with any policy, and the fresh book agree, and each guest owns one page.
 -- Assumes nothing.
 use mathlib.Core.Path.{_≡_, refl, sym, ap, _∙_}
 use mathlib.Core.Bool.{true}
@@ -17,7 +17,7 @@ use Rattle.laws.proofs.Search.{all⇔}
 use Rattle.laws.proofs.Grid.{row-of, column-of, place-below}
 use Rattle.model.specs.Sizes.{guests, physicals, pages, addresses, firstHostPage}
 use Rattle.model.specs.Names.{kindTable}
-use Rattle.model.specs.Fresh.{freshKind, freshPhysical, freshPages, freshGuests, fresh}
+use Rattle.model.specs.Fresh.{freshKind, freshPhysical, freshPages, freshGuests, freshWith}
 use Rattle.history.specs.Past.{freshBook}
 use Rattle.history.specs.Agrees.{Has, Agrees}
 use Rattle.history.specs.Rations.{owned}
@@ -27,45 +27,46 @@ use Rattle.history.specs.Rations.{owned}
 at-zeros : (n i : ℕ) → at (replicate n 0) i ≡ 0
 at-zeros n i = below? i n (λ h. getD-replicate n i 0 0 h) (λ h. at-past (replicate n 0) i (omega (arith, length-replicate {A = ℕ} n 0)))
 
-physical-at : (g pa : ℕ) → g < guests → pa < physicals → at (fresh .shape .pages .physical) (physicals * g + pa) ≡ pick (eqb pa 0) (suc g) 0
-unfolding fresh freshPages
+physical-at : (g pa : ℕ) → g < guests → pa < physicals → at (freshPages .physical) (physicals * g + pa) ≡ pick (eqb pa 0) (suc g) 0
+unfolding freshPages
 physical-at g pa hg ha =
     getD-listOf (guests * physicals) freshPhysical 0 (physicals * g + pa) (place-below physicals (omega arith) guests g pa hg ha)
     ∙ rw (row-of physicals (omega arith) g pa ha, column-of physicals (omega arith) g pa ha)
 
 -- a guest has one page, of its own number, at its physical 0
-fresh-has : {g pa p : ℕ} → Has (fresh .shape .pages .physical) g pa p → (pa ≡ 0) × (p ≡ g)
+fresh-has : {g pa p : ℕ} → Has (freshPages .physical) g pa p → (pa ≡ 0) × (p ≡ g)
 fresh-has {g} {pa} {p} h =
     let e = sym (physical-at g pa (h .guest) (h .address)) ∙ h .holds in
     same? pa 0 (λ z. let w : suc g ≡ suc p = rw z at e in (z, omega arith))
     (λ d. let w : 0 ≡ suc p = rw (ne-eqb pa 0 d) at e in absurd (omega arith))
 
-kind-at : (g : ℕ) → g < guests → at (fresh .shape .pages .kind) g ≡ kindTable
-unfolding fresh freshPages
+kind-at : (g : ℕ) → g < guests → at (freshPages .kind) g ≡ kindTable
+unfolding freshPages
 kind-at g h = getD-listOf pages freshKind 0 g (omega arith) ∙ rw (lt-ltb g firstHostPage h)
 
-entry-at : (i : ℕ) → at (fresh .shape .pages .entry) i ≡ 0
-unfolding fresh freshPages
+entry-at : (i : ℕ) → at (freshPages .entry) i ≡ 0
+unfolding freshPages
 entry-at i = at-zeros (pages * addresses) i
 
-current-at : (g : ℕ) → at (fresh .shape .guests .current) g ≡ 0
-unfolding fresh freshGuests
+current-at : (g : ℕ) → at (freshGuests .current) g ≡ 0
+unfolding freshGuests
 current-at g = at-zeros guests g
 
 -- ---- agreement
 
-active-is : 0 ≡ fresh .shape .guests .active
-unfolding fresh freshGuests
+active-is : 0 ≡ freshGuests .active
+unfolding freshGuests
 active-is = refl
 
-pub fresh-agrees : Agrees fresh freshBook
-fresh-agrees =
+pub fresh-agrees : (p : ℕ) → Agrees (freshWith p) freshBook
+unfolding freshWith
+fresh-agrees p =
     record {
       chart =
           record {
             active = active-is;
             current = λ g hg. sym (current-at g);
-            kind = λ g pa p h. let w = fresh-has h in rw (w .0, w .1) (sym (kind-at g (h .guest)));
+            kind = λ g pa q h. let w = fresh-has h in rw (w .0, w .1) (sym (kind-at g (h .guest)));
             none = λ g pa hg ha e. same? pa 0
                 (λ z. let w : suc g ≡ 0 = rw z at (sym (physical-at g pa hg ha) ∙ e) in absurd (omega arith))
                 (λ d. rw (ne-eqb pa 0 d));
@@ -74,14 +75,14 @@ fresh-agrees =
               λ l. absurd (omega (arith, l .holds, entry-at (addresses * l .table + va))),
             );
           };
-      value = λ g pa p h d. let w = fresh-has h in absurd (omega (arith, d, kind-at g (h .guest), ap (at (fresh .shape .pages .kind)) (w .1)));
+      value = λ g pa q h d. let w = fresh-has h in absurd (omega (arith, d, kind-at g (h .guest), ap (at (freshPages .kind)) (w .1)));
     }
 
 -- ---- one page each
 
-each-one : allBelow guests (λ g. eqb (owned (fresh .shape) g) 1) ≡ true
-unfolding firstFrom countBelow listFrom fresh freshPages
-each-one = refl
+each-one : (p : ℕ) → allBelow guests (λ g. eqb (owned (freshWith p .shape) g) 1) ≡ true
+unfolding firstFrom countBelow listFrom freshWith freshPages
+each-one p = refl
 
-pub fresh-owned : (g : ℕ) → g < guests → owned (fresh .shape) g ≡ 1
-fresh-owned = all⇔ guests (λ g h. eq⇔ (owned (fresh .shape) g) 1) .0 each-one
+pub fresh-owned : (p g : ℕ) → g < guests → owned (freshWith p .shape) g ≡ 1
+fresh-owned p = all⇔ guests (λ g h. eq⇔ (owned (freshWith p .shape) g) 1) .0 (each-one p)

@@ -2,14 +2,14 @@
 -- Assumes nothing.
 use mathlib.Core.Path.{_≡_, refl, sym, ap, _∙_, subst}
 use mathlib.Core.Bool.{true, false, _&&_}
-use mathlib.Core.Logic.{_⊎_, _≢_, _↔_, Iff·trans, ⊎-elim}
+use mathlib.Core.Logic.{_≢_, _↔_, Iff·trans, ⊎-elim}
 use mathlib.Core.List.{List}
 use mathlib.Core.Option.{Option, some}
 use Prim.Native.Nat.{ℕ, suc, _+_, _*_, _<_}
 use native.Mathlib.Omega.{arith}
 use lib.Dec.{eqb}
 use lib.ListN.{set}
-use Rattle.laws.specs.Choice.{pick, at, _⇔_}
+use Rattle.laws.specs.Choice.{pick, at}
 use Rattle.laws.proofs.Cases.{same?, pick-yes, pick-not}
 use Rattle.laws.proofs.Tests.{not-so}
 use Rattle.laws.proofs.Lists.{at-same, at-other}

@@ -1,18 +1,18 @@
 -- What a page holds, through the parts of steps: no part but a store changes it, whatever lines come and go.
 -- Assumes nothing.
 use mathlib.Core.Path.{_≡_, sym, ap, _∙_, subst}
-use mathlib.Core.Bool.{true}
+use mathlib.Core.Bool.{true, _&&_, not}
 use mathlib.Core.Logic.{_≢_, ⊎-elim}
 use mathlib.Core.List.{List}
 use Prim.Native.Nat.{ℕ, suc, _<_}
 use native.Mathlib.Omega.{arith}
 use lib.ListN.{length}
 use borrow.Author.Tests.{lt-ltb}
-use Rattle.laws.specs.Choice.{at}
-use Rattle.laws.proofs.Cases.{split, same?, below?}
+use Rattle.laws.specs.Choice.{pick, at}
+use Rattle.laws.proofs.Cases.{split, same?, below?, pick-both}
 use Rattle.laws.proofs.Lists.{at-past, at-same, at-other, set-at′}
 use Rattle.model.specs.Sizes.{pages, lines}
-use Rattle.model.specs.State.{State, lead, nowhere, noLine, isCacheable, lineOf, lineOfPage, present}
+use Rattle.model.specs.State.{State, lead, nowhere, noLine, isCacheable, isThrough, lineOf, lineOfPage, present}
 use Rattle.model.specs.Parts.{takeOut, takeOutPage, enter}
 use Rattle.model.specs.Write.{store}
 use Rattle.model.proofs.RuleTests.{lead-holds}
@@ -154,17 +154,14 @@ module _ {s : State} (c : Core s) (va v : ℕ) {q : ℕ} (hq : q < pages) (cache
   pub store-other : {p x : ℕ} → p < pages → p ≢ q → HoldsIn s p x → HoldsIn (store s va q v) p x
   unfolding store
   store-other {p} hp d h =
-      split (isCacheable (s .shape) q)
-      (λ e.
-      let k = cached e in
-      let i = lineOf (s .shape) va q in
-      rw e
-      (record {
-        inLine = λ j hj f. at-other (s .values .line) i v j (λ w. d (omega (arith, f, k .page, ap (at (s .shape .cache .linePage)) w))) ∙ h .inLine j hj f;
-        inMemory = λ n. at-other (s .values .memory) nowhere v p (λ w. omega arith) ∙ h .inMemory n;
-      }))
-      (λ e. rw e
-      (record {
-        inLine = λ j hj f. at-other (s .values .line) noLine v j (λ w. omega arith) ∙ h .inLine j hj f;
-        inMemory = λ n. at-other (s .values .memory) q v p d ∙ h .inMemory n;
-      }))
+      let c = isCacheable (s .shape) q in
+      let t = isThrough (s .shape) in
+      record {
+        inLine = λ j hj f.
+            at-other (s .values .line) (pick c (lineOf (s .shape) va q) noLine) v j
+            (pick-both (λ (i : ℕ). j ≢ i) c (λ e w. d (omega (arith, f, cached e .page, ap (at (s .shape .cache .linePage)) w))) (λ _ w. omega arith))
+            ∙ h .inLine j hj f;
+        inMemory = λ n.
+            at-other (s .values .memory) (pick (c && not t) nowhere q) v p (pick-both (λ (y : ℕ). p ≢ y) (c && not t) (λ _ w. omega arith) (λ _. d))
+            ∙ h .inMemory n;
+      }

@@ -2,9 +2,10 @@
 -- Assumes nothing.
 use mathlib.Core.Path.{_≡_}
 use mathlib.Core.List.{List}
-use Prim.Native.Nat.{ℕ}
+use Prim.Native.Nat.{ℕ, _<_}
+use Rattle.model.specs.Sizes.{policies}
 use Rattle.model.specs.State.{State}
-use Rattle.model.specs.Fresh.{fresh}
+use Rattle.model.specs.Fresh.{freshWith}
 use Rattle.model.specs.Records.{Bytes}
 use Rattle.model.specs.Valid.{Valid}
 use Rattle.model.specs.Journal.{recordsOf, journalRefusal, journal}
@@ -28,5 +29,5 @@ module _ {s : State} (v : Valid s) {b : Book} (a : Agrees s b) (j : List ℕ) (w
   journal-kept buffer e =
       either (λ t. Kept b s (pastOf s (recordsOf j)) (t .state)) s j buffer (λ _. journal-rations .kept) (λ n. absurd (n e))
 
-pub fresh-journal : (j : List ℕ) → Bytes j → Rations freshBook fresh (recordsOf j)
-fresh-journal = journal-rations fresh-valid fresh-agrees
+pub fresh-journal : (p : ℕ) → p < policies → (j : List ℕ) → Bytes j → Rations freshBook (freshWith p) (recordsOf j)
+fresh-journal p h = journal-rations (fresh-valid p h) (fresh-agrees p)

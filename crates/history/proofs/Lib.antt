@@ -17,3 +17,4 @@ pub mod Rations
 pub mod Samples
 pub mod Journals
 pub mod Drawn
+pub mod Policies

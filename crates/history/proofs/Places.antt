@@ -1,17 +1,18 @@
--- Where the pages of a valid state are: each in one place, all of them counted; and what a page of the host holds.
+-- Where the pages of a valid state are: each in one place, all of them counted; and a page that is no data of a guest holds 0.
 -- Assumes nothing.
 use mathlib.Core.Path.{_≡_, refl, sym, ap, ap₂, _∙_}
 use mathlib.Core.Bool.{_&&_}
-use mathlib.Core.Logic.{_↔_}
+use mathlib.Core.Logic.{_↔_, ⊎-elim}
 use Prim.Native.Nat.{ℕ, suc, _+_, _-_, _≤_, _<_}
 use native.Mathlib.Omega.{arith}
 use lib.Dec.{ltb, leb, eqb}
 use lib.Count.{ones}
-use Rattle.laws.specs.Choice.{at, _⇔_}
+use Rattle.laws.specs.Choice.{at}
 use Rattle.laws.specs.Bits.{bit}
 use Rattle.laws.specs.Search.{countBelow, sumBelow}
-use Rattle.laws.proofs.Cases.{same?}
+use Rattle.laws.proofs.Cases.{same?, below?}
 use Rattle.laws.proofs.Tests.{eq⇔, lt⇔, le⇔, and⇔, same-test}
+use Rattle.laws.proofs.Lists.{at-past}
 use Rattle.laws.proofs.Search.{count-same}
 use Rattle.laws.proofs.Counts.{sum-front, sum-same, count-values}
 use Rattle.laws.proofs.Bits.{ones-count}
@@ -19,7 +20,7 @@ use Rattle.model.specs.Sizes.{guests, pages, hostPages, firstHostPage, firstFre
 use Rattle.model.specs.Names.{ownerNone, ownerHost, ownerGuest}
 use Rattle.model.specs.State.{State, present}
 use Rattle.model.specs.Valid.{Valid}
-use Rattle.keeps.proofs.Core.{core-of, line-page}
+use Rattle.keeps.proofs.Core.{GuestData, core-of, line-page}
 use Rattle.history.specs.Agrees.{Has}
 use Rattle.history.specs.Rations.{owned, Place, free, host, guest, In, OnePlace}
 use Rattle.history.proofs.Holds.{holds-present}
@@ -105,14 +106,27 @@ module _ {s : State} (v : Valid s) where
       let y = having-host in
       omega arith
 
-  -- ---- the host's pages
+  -- ---- what is no data of a guest
 
-  pub host-zero : (p : ℕ) → firstHostPage ≤ p → p < firstFreePage → present s p ≡ 0
-  host-zero p lo hi =
-      let h : p < pages = omega arith in
-      let o = host-owner p h .0 (lo, hi) in
+  memory-zero : (p : ℕ) → p < pages → (GuestData (s .shape) p → ⊥) → at (s .values .memory) p ≡ 0
+  memory-zero p h n =
+      let o = at (s .shape .pages .owner) p in
+      same? o ownerNone (λ e. v .rule2 .ownerless p h e .2)
+      (λ a. same? o ownerHost (λ e. v .rule2 .host p h e .2)
+      (λ b.
+      let g = o - ownerGuest 0 in
+      let hg : g < guests = omega (arith, v .rule10 .pages .owner p h) in
+      let e : o ≡ ownerGuest g = omega arith in
+      ⊎-elim (λ k. absurd (n (record { page = h; isData = k; guest = g; known = hg; owned = e }))) (λ k. v .rule2 .tables p h k .1)
+      (v .rule2 .guest g p hg h e)))
+
+  pub nobody-zero : (p : ℕ) → (GuestData (s .shape) p → ⊥) → present s p ≡ 0
+  nobody-zero p n =
       holds-present s
       (record {
-        inLine = λ i hi e. absurd (omega (arith, line-page (core-of v) hi e .owned));
-        inMemory = λ n. v .rule2 .host p h o .2;
+        inLine = λ i hi e. absurd (n (line-page (core-of v) hi e));
+        inMemory = λ _. below? p pages (λ h. memory-zero p h n) (λ h. at-past (s .values .memory) p (omega (arith, v .sized .memory)));
       })
+
+  pub host-zero : (p : ℕ) → firstHostPage ≤ p → p < firstFreePage → present s p ≡ 0
+  host-zero p lo hi = let o = host-owner p (omega arith) .0 (lo, hi) in nobody-zero p (λ d. omega (arith, d .owned))

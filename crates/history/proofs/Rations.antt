@@ -6,10 +6,10 @@ use Prim.Native.Nat.{ℕ, zero, suc, _+_, _*_, _<_}
 use native.Mathlib.Omega.{arith}
 use Rattle.laws.specs.Choice.{at}
 use Rattle.laws.proofs.Search.{Each}
-use Rattle.model.specs.Sizes.{guests, physicals}
+use Rattle.model.specs.Sizes.{guests, physicals, policies}
 use Rattle.model.specs.Names.{kindData}
 use Rattle.model.specs.State.{State, present}
-use Rattle.model.specs.Fresh.{fresh}
+use Rattle.model.specs.Fresh.{freshWith}
 use Rattle.model.specs.Records.{Bytes}
 use Rattle.model.specs.Valid.{Valid}
 use Rattle.model.specs.Step.{valueOf, step}
@@ -76,13 +76,17 @@ module _ {s : State} (v : Valid s) {b : Book} (a : Agrees s b) where
       let t = rations rs w .kept in
       rw (accepted-outcome (run s rs .state) r x) (value-agrees (t .valid) (t .agrees) (x .action) (x .inRange) (x .allowed))
 
-pub fresh-kept : Kept freshBook fresh [] fresh
-fresh-kept = kept-first fresh-valid fresh-agrees
+-- ---- the fresh machine, with any policy
 
-pub fresh-rations : (rs : List (List ℕ)) → Each Bytes rs → Rations freshBook fresh rs
-fresh-rations = rations-on fresh-kept
+module _ (p : ℕ) (known : p < policies) where
+  pub fresh-kept : Kept freshBook (freshWith p) [] (freshWith p)
+  fresh-kept = kept-first (fresh-valid p known) (fresh-agrees p)
 
--- a guest owns its first page and those that it pinned, less those that it unpinned
-pub fresh-pinned : (rs : List (List ℕ)) → Each Bytes rs → (g : ℕ) → g < guests
-    → owned (run fresh rs .state .shape) g + unpinsIn freshBook (pastOf fresh rs) g ≡ 1 + pinsIn freshBook (pastOf fresh rs) g
-fresh-pinned rs w g h = fresh-rations rs w .kept .pinned g h ∙ ap (λ (x : ℕ). x + pinsIn freshBook (pastOf fresh rs) g) (fresh-owned g h)
+  pub fresh-rations : (rs : List (List ℕ)) → Each Bytes rs → Rations freshBook (freshWith p) rs
+  fresh-rations = rations-on fresh-kept
+
+  -- a guest owns its first page and those that it pinned, less those that it unpinned
+  pub fresh-pinned : (rs : List (List ℕ)) → Each Bytes rs → (g : ℕ) → g < guests
+      → owned (run (freshWith p) rs .state .shape) g + unpinsIn freshBook (pastOf (freshWith p) rs) g ≡ 1 + pinsIn freshBook (pastOf (freshWith p) rs) g
+  fresh-pinned rs w g h =
+      fresh-rations rs w .kept .pinned g h ∙ ap (λ (x : ℕ). x + pinsIn freshBook (pastOf (freshWith p) rs) g) (fresh-owned p g h)

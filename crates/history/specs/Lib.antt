@@ -1,3 +1,4 @@
 pub mod Past
 pub mod Agrees
 pub mod Rations
+pub mod Policies

@@ -9,13 +9,14 @@ use lib.Seq.{ext-getD}
 use Rattle.laws.specs.Choice.{at}
 use Rattle.laws.specs.Search.{listFrom, listOf}
 use Rattle.laws.proofs.Lists.{length-listOf, getD-listOf}
-use Rattle.model.specs.Fresh.{freshPages, freshGuests, freshCache, fresh}
+use Rattle.model.specs.Fresh.{freshPages, freshGuests, freshCache, freshWith, fresh}
 use Rattle.model.specs.Fields.{words}
-use Rattle.host.specs.View.{bytes, view}
+use Rattle.model.specs.State.{State}
+use Rattle.host.specs.View.{bytes, view, putPolicy}
 use Rattle.host.specs.FreshBytes.{freshByte}
 
 view-fresh : view (listOf bytes freshByte) ≡ fresh
-unfolding listFrom words view freshByte freshPages freshGuests freshCache fresh
+unfolding listFrom words view freshByte freshPages freshGuests freshCache freshWith
 view-fresh = refl
 
 pub filled-fresh : (xs : List ℕ) → length xs ≡ bytes → ((j : ℕ) → j < bytes → at xs j ≡ freshByte j) → view xs ≡ fresh
@@ -25,3 +26,8 @@ filled-fresh xs l e = ap view same ∙ view-fresh
     same =
         ext-getD 0 xs (listOf bytes freshByte) (l ∙ sym (length-listOf bytes freshByte))
         (λ j h. e j (omega arith) ∙ sym (getD-listOf bytes freshByte 0 j (omega arith)))
+
+-- with the policy that is stored behind
+pub fresh-stored : (s u : State) (n p : ℕ) → s ≡ fresh → n ≡ p → u ≡ putPolicy s n → u ≡ freshWith p
+unfolding putPolicy freshWith
+fresh-stored s u n p e f g = g ∙ (λ i. putPolicy (e i) (f i))

@@ -76,6 +76,7 @@ pub record Bounded (s : State) : Type 0 where
   pub slotPage : Small (s .shape .tlb .slotPage)
   pub memory : Valued (s .values .memory)
   pub line : Valued (s .values .line)
+  pub policy : s .shape .policy < byteBound
 
 pub view-bytes : (xs : List ℕ) → Whole xs → Bounded (view xs)
 unfolding view
@@ -101,6 +102,7 @@ view-bytes xs h =
       slotPage = b 16;
       memory = words-valued pages (part (cut sizes xs) 17) (b 17);
       line = words-valued lines (part (cut sizes xs) 18) (b 18);
+      policy = b 19 0;
     }
 
 -- ---- equal states, equal bytes

@@ -1,5 +1,5 @@
--- Numbers that are no byte of a list, in the view of bytes: the values of pages and lines, the active guest and the mode, and the map of free
--- pages. What a read and a store of each is of the state.
+-- Numbers that are no byte of a list, in the view of bytes: the values of pages and lines, the active guest and the mode, the policy, and the map of
+-- free pages. What a read and a store of each is of the state.
 -- Assumes nothing.
 use mathlib.Core.Path.{_≡_, refl, sym, ap, _∙_}
 use mathlib.Core.List.{List, [], _∷_}
@@ -17,7 +17,7 @@ use Rattle.host.specs.declared.Field.{Field}
 use Rattle.laws.specs.Cut.{cut, begin, size, part, edit}
 use Rattle.host.specs.Words.{setWord}
 use Rattle.model.specs.Fields.{words, stateOf, long}
-use Rattle.host.specs.View.{sizes, freeField, activeField, modeField, memoryField, lineField, bytes, view, valued, worded, putMemory, putLine, putWord, singles, single, putActive, putMode, putSingle, putFree}
+use Rattle.host.specs.View.{sizes, freeField, activeField, modeField, memoryField, lineField, policyField, bytes, view, valued, worded, putMemory, putLine, putWord, singles, single, putActive, putMode, putPolicy, putSingle, putFree}
 use Rattle.host.proofs.Cut.{cut-set, cut-set-word, cut-get-word}
 use Rattle.host.proofs.Words.{length-words, words-set, words-get, words-out, two-words}
 use Rattle.host.proofs.View.{ends-below}
@@ -124,6 +124,18 @@ single-put (suc zero) v xs e l =
     ap stateOf (cut-set sizes modeField 0 v xs (omega arith))
     ∙ ap (λ (n : ℕ). putMode (view xs) n) (at-same (part (cut sizes xs) modeField) 0 v (omega (arith, cut-length sizes modeField xs (omega arith))))
 single-put (suc (suc k)) v xs e l = absurd (omega arith)
+
+-- ---- the policy: a byte
+
+pub policy-get : (xs : List ℕ) → at xs (begin sizes policyField) ≡ view xs .shape .policy
+unfolding view
+policy-get xs = cut-get sizes policyField 0 xs (omega arith)
+
+pub policy-put : (v : ℕ) (xs : List ℕ) → length xs ≡ bytes → view (set xs (begin sizes policyField) v) ≡ putPolicy (view xs) v
+unfolding view putPolicy
+policy-put v xs l =
+    ap stateOf (cut-set sizes policyField 0 v xs (omega arith))
+    ∙ ap (λ (n : ℕ). putPolicy (view xs) n) (at-same (part (cut sizes xs) policyField) 0 v (omega (arith, cut-length sizes policyField xs (omega arith))))
 
 -- ---- the map of free pages: eight bytes
 

@@ -8,7 +8,7 @@ use lib.Dec.{eqb, ltb}
 use lib.ListN.{length, set}
 use Rattle.laws.specs.Choice.{at}
 use Rattle.model.specs.State.{State}
-use Rattle.model.specs.Parts.{withPages, shaped, setActive, setMode}
+use Rattle.model.specs.Parts.{withPages, withPolicy, shaped, setActive, setMode}
 use Rattle.laws.specs.Cut.{cut, part, edit, total}
 use Rattle.model.specs.Fields.{fieldSizes, stateOf, Small}
 
@@ -87,6 +87,9 @@ memoryField = 17
 abbrev pub lineField : ℕ
 lineField = 18
 
+abbrev pub policyField : ℕ
+policyField = 19
+
 -- ---- one place of a field changed
 
 -- the fields that are lists of bytes, by their number
@@ -130,6 +133,7 @@ withColumns s ps =
                 };
             cache = record { lineAddress = part ps 12; linePage = part ps 13; history = part ps 14 };
             tlb = record { slotAddress = part ps 15; slotPage = part ps 16 };
+            policy = s .shape .policy;
           };
       values = s .values;
     }
@@ -155,6 +159,9 @@ putActive s g = shaped s (setActive (s .shape) g)
 
 unfoldable pub putMode : State → ℕ → State
 putMode s m = shaped s (setMode (s .shape) m)
+
+unfoldable pub putPolicy : State → ℕ → State
+putPolicy s p = shaped s (withPolicy (s .shape) p)
 
 -- the values
 

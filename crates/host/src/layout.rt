@@ -46,7 +46,9 @@ pub(crate) const MEMORY_AT: usize = SLOT_PAGE_AT + SLOTS;
 
 pub(crate) const LINE_AT: usize = MEMORY_AT + 4 * PAGES;
 
-// The fields that are lists of bytes, by their number, and the three that are not.
+pub(crate) const POLICY_AT: usize = LINE_AT + 4 * LINES;
+
+// The fields that are lists of bytes, by their number, and the three among them that are not; values and policy stand behind them.
 pub(crate) const FIELDS: [Field; 17] = [
     Field {
         start: OWNER_AT,

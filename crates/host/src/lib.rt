@@ -5,7 +5,7 @@ mod layout; // where each field stands
 mod lines; // the cache's lines and histories, the TLB's slots
 mod names; // sizes, and numbers that stand for names
 mod start; // the fresh machine
-mod values; // numbers of more than one byte, the active guest and the mode, the map of free pages
+mod values; // numbers of more than one byte, the active guest, the mode and the policy, the map of free pages
 
 pub use calls::idle;
 pub use calls::is_pending;
@@ -53,6 +53,7 @@ pub use names::OWNER_HOST;
 pub use names::OWNER_NONE;
 pub use names::PAGES;
 pub use names::PHYSICALS;
+pub use names::POLICIES;
 pub use names::RUNNING;
 pub use names::SETS;
 pub use names::SIZE;
@@ -62,6 +63,8 @@ pub use names::STEALTH_LINE;
 pub use names::STEALTH_SET;
 pub use names::WAITING;
 pub use names::WAYS;
+pub use names::WRITE_BACK;
+pub use names::WRITE_THROUGH;
 pub use numbers::CALL_DEL;
 pub use numbers::CALL_LSWITCH;
 pub use numbers::CALL_NEW;
@@ -88,6 +91,7 @@ pub use numbers::pin_kind_of;
 pub use numbers::pin_number;
 pub use numbers::place;
 pub use start::fresh;
+pub use start::fresh_with;
 pub use values::active;
 pub use values::free_pages;
 pub use values::is_free;
@@ -96,10 +100,12 @@ pub use values::lowest_free;
 pub use values::mark_free;
 pub use values::memory;
 pub use values::mode;
+pub use values::policy;
 pub use values::set_active;
 pub use values::set_line_value;
 pub use values::set_memory;
 pub use values::set_mode;
+pub use values::set_policy;
 pub use values::unmark_free;
 pub use values::whole;
 ghost use mathlib.Core.Path.{_≡_};
@@ -113,6 +119,12 @@ ghost use Rattle.host.specs.View.{sizes, view, listed, column, put, owne
 ghost use Rattle.numbers.specs.Lead.{leadOf, heldOf};
 
 pub type Host = [u8; SIZE];
+
+// Whether a write to a line writes memory too.
+pub enum WritePolicy {
+    Back,
+    Through,
+}
 
 // ---- fields
 

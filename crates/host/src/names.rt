@@ -27,7 +27,7 @@ pub const STEALTH_LINE: usize = WAYS * STEALTH_SET;
 pub const SLOTS: usize = 8;
 
 // The bytes of a state.
-pub const SIZE: usize = 4754;
+pub const SIZE: usize = 4755;
 
 // The host's pages stand after the guests' first tables.
 pub const FIRST_HOST_PAGE: u8 = GUESTS as u8;
@@ -62,3 +62,10 @@ pub const HISTORIES: u8 = WAYS as u8;
 pub const WAITING: u8 = 0;
 
 pub const RUNNING: u8 = 1;
+
+// Write policies, and how many there are.
+pub const WRITE_BACK: u8 = 0;
+
+pub const WRITE_THROUGH: u8 = 1;
+
+pub const POLICIES: u8 = 2;

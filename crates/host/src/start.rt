@@ -1,4 +1,4 @@
-// The fresh machine, stored byte by byte whatever the bytes were.
+// The fresh machine, stored byte by byte whatever the bytes were, write-back or with the policy that is asked for.
 use super::FIRST_FREE_PAGE;
 use super::GUESTS;
 use super::Host;
@@ -11,6 +11,9 @@ use super::OWNER_NONE;
 use super::PHYSICALS;
 use super::RUNNING;
 use super::SIZE;
+use super::WRITE_BACK;
+use super::WRITE_THROUGH;
+use super::WritePolicy;
 use super::layout::CACHEABLE_AT;
 use super::layout::CURRENT_AT;
 use super::layout::ENTRY_AT;
@@ -18,14 +21,16 @@ use super::layout::FREE_AT;
 use super::layout::KIND_AT;
 use super::layout::MODE_AT;
 use super::layout::PHYSICAL_AT;
+use super::set_policy;
 ghost use mathlib.Core.Path.{_≡_};
 ghost use Prim.Native.Nat.{_*_, _≤_, _<_};
 ghost use lib.ListN.{length};
 ghost use Rattle.model.specs.Sizes.{guests, physicals};
-ghost use Rattle.model.specs.Fresh.{freshOwner, freshKind, freshPhysical, fresh};
+ghost use Rattle.model.specs.Fresh.{freshOwner, freshKind, freshPhysical, freshWith, fresh};
 ghost use Rattle.laws.specs.Cut.{begin};
 ghost use Rattle.host.specs.View.{sizes, bytes, view, physicalField};
 ghost use Rattle.host.specs.FreshBytes.{freshMap, laterByte, freshByte};
+ghost use Rattle.host.specs.Policies.{policyNumber};
 
 const FIRST_FREE: usize = FIRST_FREE_PAGE as usize;
 
@@ -117,4 +122,20 @@ pub fn fresh(h: &mut Host)
     ensures { λ _. ⌜ view (now (h .exit)) ≡ fresh ⌝ }
 {
     fill(h);
+}
+
+fn policy_number(p: WritePolicy) -> u8
+    ensures { λ r. ⌜ r ≡ policyNumber p ⌝ }
+{
+    match p {
+        WritePolicy::Back => WRITE_BACK,
+        WritePolicy::Through => WRITE_THROUGH,
+    }
+}
+
+pub fn fresh_with(h: &mut Host, p: WritePolicy)
+    ensures { λ _. ⌜ view (now (h .exit)) ≡ freshWith (policyNumber p) ⌝ }
+{
+    fresh(h);
+    set_policy(h, policy_number(p));
 }

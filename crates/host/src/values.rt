@@ -10,6 +10,7 @@ use super::layout::ACTIVE_AT;
 use super::layout::FREE_AT;
 use super::layout::LINE_AT;
 use super::layout::MEMORY_AT;
+use super::layout::POLICY_AT;
 ghost use mathlib.Core.Path.{_≡_};
 ghost use Prim.Native.Nat.{_+_, _<_, _≤_};
 ghost use lib.ListN.{length};
@@ -22,7 +23,7 @@ ghost use Rattle.model.specs.Checks.{lowestFree};
 ghost use Rattle.model.specs.Records.{wordAt};
 ghost use Rattle.model.specs.Fields.{Small};
 ghost use Rattle.host.specs.Words.{setWord};
-ghost use Rattle.host.specs.View.{bytes, view, Whole, valued, worded, putWord, putMemory, putLine, singles, single, putSingle, putActive, putMode, putFree};
+ghost use Rattle.host.specs.View.{bytes, view, Whole, valued, worded, putWord, putMemory, putLine, singles, single, putSingle, putActive, putMode, putPolicy, putFree};
 ghost use Rattle.numbers.specs.Lead.{toward};
 
 // What the type of the buffer says. It does nothing.
@@ -176,6 +177,21 @@ pub fn set_mode(h: &mut Host, m: u8)
     ensures { λ _. ⌜ view (now (h .exit)) ≡ putMode (view (now (h .entry))) m ⌝ }
 {
     set_single(h, MODE, m)
+}
+
+// ---- the policy
+
+pub fn policy(h: &Host) -> u8
+    ensures { λ r. ⌜ r ≡ view (now (h .entry)) .shape .policy ⌝ }
+{
+    h[POLICY_AT]
+}
+
+pub fn set_policy(h: &mut Host, v: u8)
+    ensures { λ _. ⌜ view (now (h .exit)) ≡ putPolicy (view (now (h .entry))) v ⌝ }
+{
+    whole(h);
+    h[POLICY_AT] = v;
 }
 
 // ---- the map of free pages: digit n of its number marks page n

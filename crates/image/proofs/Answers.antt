@@ -1,20 +1,21 @@
 -- At most one answer, and one content of what was lent, meets each promise. What is refused leaves every byte. By the bytes: what was saved loads, what
--- was loaded saves, equal images are those of equal hosts, and a byte out of its range is refused with 1.
+-- was loaded saves, of the first version as of the one that is written, equal images are those of equal hosts, and a byte out of its range is refused with 1.
 -- Assumes nothing.
 use mathlib.Core.Path.{_≡_, sym, ap, _∙_}
 use mathlib.Core.Logic.{_≢_, _↔_}
-use mathlib.Core.List.{List}
+use mathlib.Core.List.{List, [], _∷_, _++_}
 use Prim.Native.Nat.{ℕ, _+_, _≤_, _<_}
-use lib.ListN.{length}
+use lib.ListN.{length, drop}
 use Rattle.laws.specs.Choice.{at}
 use Rattle.laws.specs.Cut.{begin, size}
 use Rattle.model.specs.Sizes.{imageHeadBytes}
 use Rattle.model.specs.State.{State}
 use Rattle.model.specs.Records.{Bytes}
 use Rattle.model.specs.Fields.{fieldSizes, fieldBounds}
-use Rattle.model.specs.Image.{imageBytes, Image, imageOf, ImageAnswer, done, Read, loaded, Written, saved}
+use Rattle.model.specs.Names.{writeBack}
+use Rattle.model.specs.Image.{firstVersion, versionWritten, imageBytes, versionIn, head, Image, imageOf, ImageAnswer, done, Read, loaded, Written, saved}
 use Rattle.model.proofs.Image.{image-inj}
-use Rattle.model.proofs.Saving.{open-same, load-same, save-same, save-valid, save-done, saved-loads, loaded-saves, out-of-range}
+use Rattle.model.proofs.Saving.{open-same, load-same, save-same, load-valid, load-done, save-valid, save-done, saved-loads, loaded-saves, first-saves, first-back, out-of-range}
 use Rattle.host.specs.View.{view, Whole}
 use Rattle.host.proofs.Inverse.{view-inj}
 use Rattle.image.specs.declared.Answer.{Answer}
@@ -55,13 +56,28 @@ saved-loads-bytes x y z b {i} h k p q =
     ap (loaded (view y)) (p .buffer) ∙ saved-loads (view x) b (done-is (p .answer)) (view y) in
     (q .answer ∙ ap (λ (r : Read). answerTo (r .answer)) e, view-inj z x k h (q .state ∙ ap (λ (r : Read). r .state) e))
 
--- what was loaded saves to any buffer of its length, and gives the image that was loaded, every byte
-pub loaded-saves-bytes : (x y b : List ℕ) {i c : List ℕ} {a : Answer} → Bytes i → length b ≡ imageBytes → Loads (view x) i Done (view y)
-    → Saves (view y) b a c → (a ≡ Done) × (c ≡ i)
-loaded-saves-bytes x y b {i} w l p q =
-    let e : saved (view y) b ≡ record { answer = done; buffer = i } =
-    ap (λ (s : State). saved s b) (p .state) ∙ loaded-saves (view x) i w (done-is (p .answer)) b l in
+-- what was loaded saves to any buffer of that length, and gives these bytes
+gives : (x y b : List ℕ) {i c k : List ℕ} {a : Answer} → Loads (view x) i Done (view y) → Saves (view y) b a c
+    → saved (loaded (view x) i .state) b ≡ record { answer = done; buffer = k } → (a ≡ Done) × (c ≡ k)
+gives x y b {k = k} p q f =
+    let e : saved (view y) b ≡ record { answer = done; buffer = k } = ap (λ (s : State). saved s b) (p .state) ∙ f in
     (q .answer ∙ ap (λ (r : Written). answerTo (r .answer)) e, q .buffer ∙ ap (λ (r : Written). r .buffer) e)
+
+-- of the version that is written, the image that was loaded, every byte
+pub loaded-saves-bytes : (x y b : List ℕ) {i c : List ℕ} {a : Answer} → Bytes i → versionIn i ≡ versionWritten → length b ≡ imageBytes
+    → Loads (view x) i Done (view y) → Saves (view y) b a c → (a ≡ Done) × (c ≡ i)
+loaded-saves-bytes x y b {i} w v l p q = gives x y b p q (loaded-saves (view x) i w v (done-is (p .answer)) b l)
+
+-- of the first version, its fields and write-back behind the head that is written
+pub first-saves-bytes : (x y b : List ℕ) {i c : List ℕ} {a : Answer} → Bytes i → versionIn i ≡ firstVersion → length b ≡ imageBytes
+    → Loads (view x) i Done (view y) → Saves (view y) b a c → (a ≡ Done) × (c ≡ head ++ (drop imageHeadBytes i ++ (writeBack ∷ [])))
+first-saves-bytes x y b {i} w v l p q = gives x y b p q (first-saves (view x) i w v (done-is (p .answer)) b l)
+
+-- and a host that was loaded from one is write-back
+pub first-loads-bytes : (x y : List ℕ) {i : List ℕ} → versionIn i ≡ firstVersion → Loads (view x) i Done (view y) → view y .shape .policy ≡ writeBack
+first-loads-bytes x y {i} v p =
+    let m = load-done (view x) i (done-is (p .answer)) in
+    ap (λ (s : State). s .shape .policy) (p .state ∙ ap (λ (r : Read). r .state) (load-valid (view x) i (m .0) (m .1))) ∙ first-back i (m .0) v
 
 -- ---- equal hosts and equal images
 

@@ -2,6 +2,7 @@
 -- Assumes nothing.
 use mathlib.Core.Path.{_≡_, sym, ap, _∙_}
 use mathlib.Core.Bool.{Bool, false, _&&_}
+use mathlib.Core.Logic.{⊎-elim}
 use mathlib.Core.List.{List}
 use Prim.Native.Nat.{ℕ, zero, suc, _+_, _*_, _<_}
 use native.Mathlib.Omega.{arith}
@@ -17,7 +18,8 @@ use Rattle.model.proofs.Image.{image⇔}
 module _ (i : List ℕ) where
   -- no room for mark and version
   pub too-short : length i < imageHeadBytes → false ≡ isImage i
-  too-short h = sym (not-so (image⇔ i) (λ m. let l = m .long in omega arith))
+  too-short h =
+      sym (not-so (image⇔ i) (λ m. ⊎-elim (λ v. omega (arith, m .long ∙ ap (at lengths) v)) (λ v. omega (arith, m .long ∙ ap (at lengths) v)) (m .version)))
 
   abbrev Marked : Type 0
   Marked = (k : ℕ) → k < markBytes → at i k ≡ at mark k

@@ -26,16 +26,12 @@ answer-back notImage = refl
 pub number-is : (x : ImageAnswer) {a : Answer} {n : ℕ} → a ≡ answerTo x → n ≡ imageNumber (answerFrom a) → n ≡ imageNumber x
 number-is x e f = f ∙ ap (λ (b : Answer). imageNumber (answerFrom b)) e ∙ ap imageNumber (answer-back x)
 
--- an image has its length
-pub image-long : (i : List ℕ) {t : Bool} → t ≡ isImage i → t ≡ true → length i ≡ imageBytes
-image-long i e f = image⇔ i .0 (sym e ∙ f) .long
+pub is-one : (i : List ℕ) {t : Bool} → t ≡ isImage i → t ≡ true → Image i
+is-one i e f = image⇔ i .0 (sym e ∙ f)
 
 module _ (s : State) (i : List ℕ) {t : Bool} (e : t ≡ isImage i) where
   is-other : t ≡ false → Image i → ⊥
   is-other f = fails (image⇔ i) (sym e ∙ f)
-
-  is-one : t ≡ true → Image i
-  is-one f = image⇔ i .0 (sym e ∙ f)
 
   pub opens-other : t ≡ false → Opens s i NotImage s
   opens-other f =
@@ -44,7 +40,7 @@ module _ (s : State) (i : List ℕ) {t : Bool} (e : t ≡ isImage i) where
 
   pub opens-image : t ≡ true → {u : State} → u ≡ held i → Opens s i Done u
   opens-image f k =
-      let q = sym (open-image s i (is-one f)) in
+      let q = sym (open-image s i (is-one i e f)) in
       record { answer = ap (λ (r : Read). answerTo (r .answer)) q; state = k ∙ ap (λ (r : Read). r .state) q }
 
   pub loads-other : t ≡ false → Loads s i NotImage s
@@ -59,12 +55,12 @@ module _ (s : State) (i : List ℕ) {t : Bool} (e : t ≡ isImage i) where
 
     pub loads-invalid : v ≡ false → Loads s i NotValid s
     loads-invalid h =
-        let q = sym (load-invalid s i (is-one f) (fails (valid⇔ (held i)) (judged ∙ h))) in
+        let q = sym (load-invalid s i (is-one i e f) (fails (valid⇔ (held i)) (judged ∙ h))) in
         record { answer = ap (λ (r : Read). answerTo (r .answer)) q; state = ap (λ (r : Read). r .state) q }
 
     pub loads-valid : v ≡ true → {w : State} → w ≡ held i → Loads s i Done w
     loads-valid h m =
-        let q = sym (load-valid s i (is-one f) (valid⇔ (held i) .0 (judged ∙ h))) in
+        let q = sym (load-valid s i (is-one i e f) (valid⇔ (held i) .0 (judged ∙ h))) in
         record { answer = ap (λ (r : Read). answerTo (r .answer)) q; state = m ∙ ap (λ (r : Read). r .state) q }
 
 module _ (s : State) (b : List ℕ) {v : Bool} (g : v ≡ valid? s) where

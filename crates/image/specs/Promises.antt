@@ -1,10 +1,13 @@
--- What opening, loading and saving promise: the answer, and the state or every byte of the buffer at exit.
+-- What opening, loading and saving promise: the answer, and the state or every byte of the buffer at exit. And a buffer with an image's head.
 -- Assumes nothing.
 use mathlib.Core.Path.{_≡_}
 use mathlib.Core.List.{List}
-use Prim.Native.Nat.{ℕ}
+use Prim.Native.Nat.{ℕ, _<_}
+use lib.ListN.{length}
+use Rattle.laws.specs.Choice.{at}
+use Rattle.model.specs.Sizes.{imageHeadBytes}
 use Rattle.model.specs.State.{State}
-use Rattle.model.specs.Image.{ImageAnswer, done, notValid, notImage, opened, loaded, saved}
+use Rattle.model.specs.Image.{imageBytes, head, ImageAnswer, done, notValid, notImage, opened, loaded, saved}
 use Rattle.image.specs.declared.Answer.{Answer}
 use Rattle.image.specs.declared.Answer.the-variants.{Done, NotValid, NotImage}
 
@@ -32,3 +35,8 @@ pub record Loads (s : State) (i : List ℕ) (a : Answer) (t : State) : Type 0 wh
 pub record Saves (s : State) (b : List ℕ) (a : Answer) (c : List ℕ) : Type 0 where
   pub answer : a ≡ answerTo (saved s b .answer)
   pub buffer : c ≡ saved s b .buffer
+
+-- an image begun: the head stands first, and there is room for the fields
+pub record Begun (b : List ℕ) : Type 0 where
+  pub begins : (k : ℕ) → k < imageHeadBytes → at b k ≡ at head k
+  pub long : length b ≡ imageBytes

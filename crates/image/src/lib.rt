@@ -7,9 +7,11 @@ ghost use lib.Dec.{eqb};
 ghost use lib.ListN.{length};
 ghost use Rattle.laws.specs.Choice.{at};
 ghost use Rattle.model.specs.Sizes.{byteBound};
+ghost use Rattle.model.specs.Names.{writeBack};
 ghost use Rattle.model.specs.Image.{mark, lengths, imageBytes, isImage, Image, imageOf, held, imageNumber};
-ghost use Rattle.host.specs.View.{bytes, view, Whole};
-ghost use Rattle.image.specs.Promises.{answerFrom, Opens, Loads, Saves};
+ghost use Rattle.laws.specs.Cut.{begin};
+ghost use Rattle.host.specs.View.{sizes, policyField, bytes, view, Whole};
+ghost use Rattle.image.specs.Promises.{answerFrom, Begun, Opens, Loads, Saves};
 
 // done, or refused: the state is not valid; mark, version or length is not that of an image
 pub enum Answer {
@@ -26,15 +28,18 @@ const VERSION_HIGH: usize = VERSION_LOW + 1;
 const HEAD: usize = VERSION_HIGH + 1;
 
 // The version that is written.
-const VERSION: u16 = 1;
+const VERSION: u16 = 2;
 
 // The bytes of an image of that version.
 pub const SIZE: usize = HEAD + host::SIZE;
 
-// The bytes of an image, by its version: 0 where there is no such version.
-const LENGTHS: [usize; VERSIONS] = [0, SIZE];
+// Version 1 has no policy, which is the last byte.
+const FIRST_SIZE: usize = SIZE - 1;
 
-const VERSIONS: usize = 2;
+// The bytes of an image, by its version: 0 where there is no such version.
+const LENGTHS: [usize; VERSIONS] = [0, FIRST_SIZE, SIZE];
+
+const VERSIONS: usize = 3;
 
 // The number of docs/HOST.md.
 pub fn number(a: Answer) -> u8
@@ -84,26 +89,29 @@ fn is_image(i: &[u8]) -> bool
 
 // ---- the fields
 
-// Over a part, so that its length is known.
+// Over a part, so that its length is known. What the image has not stays.
 fn take_fields(s: &mut [u8], image: &[u8])
-    requires { ⌜ (length (now s) ≡ bytes) × (length (now image) ≡ imageBytes) ⌝ }
+    requires { ⌜ (length (now s) ≡ bytes) × Image (now image) × (at (now s) (begin sizes policyField) ≡ writeBack) ⌝ }
     ensures { λ _. ⌜ view (now (s .exit)) ≡ held (now (image .entry)) ⌝ }
 {
-    for i in 0..host::SIZE {
+    let n = image.len() - HEAD;
+    for i in 0..n {
         s[i] = image[HEAD + i];
     }
 }
 
+// Write-back, unless the image has a policy.
 fn take(h: &mut Host, image: &[u8])
-    requires { ⌜ length (now image) ≡ imageBytes ⌝ }
+    requires { ⌜ Image (now image) ⌝ }
     ensures { λ _. ⌜ view (now (h .exit)) ≡ held (now (image .entry)) ⌝ }
 {
+    host::set_policy(h, host::WRITE_BACK);
     take_fields(h, image);
 }
 
 fn put_head(out: &mut [u8])
     requires { ⌜ length (now out) ≡ imageBytes ⌝ }
-    ensures { λ _. ⌜ Image (now (out .exit)) ⌝ }
+    ensures { λ _. ⌜ Begun (now (out .exit)) ⌝ }
 {
     let mark = b"RPS";
     out[0] = mark[0];
@@ -115,7 +123,7 @@ fn put_head(out: &mut [u8])
 
 // Over a part, so that its length is known.
 fn put_fields(out: &mut [u8], s: &[u8])
-    requires { ⌜ Image (now out) × Whole (now s) ⌝ }
+    requires { ⌜ Begun (now out) × Whole (now s) ⌝ }
     ensures { λ _. ⌜ now (out .exit) ≡ imageOf (view (now (s .entry))) ⌝ }
 {
     for i in 0..host::SIZE {

@@ -9,7 +9,7 @@ use Rattle.laws.proofs.Cases.{same?}
 use Rattle.model.specs.Sizes.{guests, physicals, pages, addresses, lines}
 use Rattle.model.specs.Names.{ownerNone, ownerHost, ownerGuest, kindData, kindTable}
 use Rattle.model.specs.State.{Shape, State, lead, active, table, tableAt, mapped, here}
-use Rattle.model.specs.Rules.{Maps, Rule1, Rule2, Rule3, Rule4, Rule5, Registered, Rule6, Rule7, Rule8, Rule9, Leads, Rule10}
+use Rattle.model.specs.Rules.{Maps, Rule1, Rule2, Rule3, Rule4, Rule5, Registered, Rule6, Rule7, Rule8, Rule9, Leads, Rule10, Rule11}
 use Rattle.model.specs.Valid.{Sized, Valid}
 use Rattle.model.proofs.RuleTests.{lead-page, lead-holds}
 
@@ -23,6 +23,7 @@ pub record Core (s : State) : Type 0 where
   pub rule6 : Rule6 (s .shape .pages .kind) (s .shape .pages .cacheable) (s .shape .pages .entry)
   pub rule7 : Rule7 (s .shape .pages .kind) (s .shape .pages .cacheable) (s .shape .pages .entry) (s .shape .cache .lineAddress) (s .shape .cache .linePage)
   pub rule10 : Rule10 s
+  pub rule11 : Rule11 (s .shape .cache .linePage) (s .values .memory) (s .values .line) (s .shape .policy)
 
 abbrev pub Eight : Shape → Type 0
 Eight h = Rule8 (h .pages .entry) (h .tlb .slotAddress) (h .tlb .slotPage) (table h)
@@ -42,6 +43,7 @@ core-of v =
       rule6 = v .rule6;
       rule7 = v .rule7;
       rule10 = v .rule10;
+      rule11 = v .rule11;
     }
 
 pub valid-of : {s : State} → Core s → Eight (s .shape) → Nine (s .shape) → Valid s
@@ -58,6 +60,7 @@ valid-of c e n =
       rule8 = e;
       rule9 = n;
       rule10 = c .rule10;
+      rule11 = c .rule11;
     }
 
 -- ---- places and pages

@@ -17,7 +17,7 @@ use Rattle.model.specs.Rules.{Maps, Entry, Rule4, Rule6, Rule7, Rule8, Rule9}
 use Rattle.model.specs.Parts.{shaped, setEntry}
 use Rattle.model.specs.Valid.{Valid}
 use Rattle.keeps.proofs.Core.{Core, core-of, valid-of, inForce}
-use Rattle.keeps.proofs.Parts.{guests-of, cache-of, tlb-of, core-from, line-among, mapped-part}
+use Rattle.keeps.proofs.Parts.{guests-of, cache-of, tlb-of, policy-of, core-from, line-among, mapped-part}
 use Rattle.keeps.proofs.Stores.{size-set, below-set, below-held}
 
 -- what page p needs for table m to map va to it
@@ -164,7 +164,7 @@ entry-core {s} m va e hv f u c =
           };
       values = c .rule10 .values .memory;
     })
-    (guests-of c) (mapped-part (entry-rule7 m va e hv u (c .rule7)) (cache-of c)) (tlb-of c)
+    (guests-of c) (mapped-part (entry-rule7 m va e hv u (c .rule7)) (cache-of c)) (tlb-of c) (policy-of c)
 
 -- in the table in force, at an address other than the stealth address
 pub entry-valid : {s : State} (va e : ℕ) → va < addresses → va ≢ stealth → Storable (s .shape .pages) (table (s .shape)) va e

@@ -1,6 +1,6 @@
 -- A page that nothing uses changes hands: what pin and unpin share.
 -- Assumes nothing.
-use mathlib.Core.Path.{_≡_, sym, ap, _∙_, subst}
+use mathlib.Core.Path.{_≡_, refl, sym, ap, _∙_, subst}
 use mathlib.Core.Logic.{_⊎_, _≢_, _↔_, ⊎-elim}
 use mathlib.Core.List.{List}
 use Prim.Native.Nat.{ℕ, suc, _+_, _*_, _^_, _<_}
@@ -17,7 +17,7 @@ use Rattle.model.specs.Parts.{withPages}
 use Rattle.model.specs.Rules.{Maps, Rule2, Rule3, Rule4, Rule5, Rule6, Rule7}
 use Rattle.model.specs.Valid.{Valid}
 use Rattle.keeps.proofs.Core.{Core, core-of, valid-of, inForce}
-use Rattle.keeps.proofs.Parts.{cache-of, tlb-of, core-from, line-among, mapped-part}
+use Rattle.keeps.proofs.Parts.{cache-of, tlb-of, policy-of, core-from, line-among, mapped-part, policy-kept}
 use Rattle.keeps.proofs.Stores.{size-set, below-set, below-held}
 
 -- Page p has the owner o and the kind k, cacheable, with the value 0; place i of the physical addresses holds e, and the map is f.
@@ -254,6 +254,7 @@ module _ {s : State} (c : Core s) {p i o k e f : ℕ} (n : Idle s p i) (b : Beco
         ranges = c .rule10 .guests;
       })
       (mapped-part handed-rule7 (cache-of c)) (tlb-of c)
+      (policy-kept (policy-of c) (λ j q hj x. (x, refl, at-other (s .values .memory) p 0 q (mapped-other (c .rule7 .line j q hj x .mapped .1)))))
 
 -- The table in force is the same, for its place and its page are others.
 pub handed-valid : {s : State} → Valid s → {p i o k e f : ℕ} → Idle s p i → Becomes (s .shape .pages .free) p i o k e f → Valid (handed s p i o k e f)

@@ -9,10 +9,10 @@ use Rattle.laws.specs.Choice.{at}
 use Rattle.laws.specs.Bits.{bit, marks}
 use Rattle.laws.proofs.Cases.{below?}
 use Rattle.laws.proofs.Search.{Each, firstBelow-found, firstBelow-least}
-use Rattle.model.specs.Sizes.{guests, physicals, pages, addresses, stealth}
+use Rattle.model.specs.Sizes.{guests, physicals, pages, addresses, policies, stealth}
 use Rattle.model.specs.Names.{kindData, kindTable}
 use Rattle.model.specs.State.{State, active, mapped, here}
-use Rattle.model.specs.Fresh.{fresh}
+use Rattle.model.specs.Fresh.{freshWith}
 use Rattle.model.specs.Records.{Action, silent, read, readHyper, write, writeHyper, new, newSm, del, switch, lswitch, hcall, retCtrl, chmod, pin, unpin, drop, InRange, Bytes}
 use Rattle.model.specs.Rules.{Maps}
 use Rattle.model.specs.Valid.{Valid}
@@ -123,5 +123,5 @@ run-judges {s} v (r ∷ rs) b =
     after : Outcome → Ran → Ran
     after o t = record { answers = o .answer ∷ t .answers; state = t .state }
 
-pub fresh-run : (rs : List (List ℕ)) → Each Bytes rs → Valid (run fresh rs .state)
-fresh-run rs b = run-keeps fresh-valid rs b
+pub fresh-run : (p : ℕ) → p < policies → (rs : List (List ℕ)) → Each Bytes rs → Valid (run (freshWith p) rs .state)
+fresh-run p h rs b = run-keeps (fresh-valid p h) rs b

@@ -1,6 +1,6 @@
 -- A line stored over what the cache has at a place, or taken out from there. One argument for both: a rule can break only by what is stored.
 -- Assumes nothing.
-use mathlib.Core.Path.{_≡_, refl, sym, _∙_, subst}
+use mathlib.Core.Path.{_≡_, refl, sym, ap, _∙_, subst}
 use mathlib.Core.Logic.{_≢_}
 use mathlib.Core.List.{List}
 use Prim.Native.Nat.{ℕ, zero, suc, _/_, _<_}
@@ -11,14 +11,15 @@ use Rattle.laws.specs.Choice.{at}
 use Rattle.laws.proofs.Cases.{below?}
 use Rattle.laws.proofs.Lists.{at-past}
 use Rattle.model.specs.Sizes.{pages, addresses, ways, lines, setOf, stealthSet, valueBound}
+use Rattle.model.specs.Names.{writeThrough}
 use Rattle.model.specs.State.{Shape, State, lead, table, noLine}
 use Rattle.model.specs.Parts.{setLine, takeOut, enter}
 use Rattle.model.specs.Rules.{Maps, Line, Rule7}
 use Rattle.model.specs.Valid.{Valid}
 use Rattle.model.proofs.RuleTests.{lead-holds}
 use Rattle.keeps.proofs.Core.{Core, GuestData, core-of, valid-of, mapped-page, line-page}
-use Rattle.keeps.proofs.Parts.{CacheOf, pages-of, guests-of, tlb-of, core-from}
-use Rattle.keeps.proofs.Stores.{size-set, below-set, below-any, below-held, zero-set, stored?, memory-part}
+use Rattle.keeps.proofs.Parts.{PolicyPart, CacheOf, pages-of, guests-of, tlb-of, core-from}
+use Rattle.keeps.proofs.Stores.{size-set, below-set, same-set, below-any, below-held, zero-set, stored?, memory-part}
 use Rattle.keeps.proofs.Sets.{rule9-other}
 
 -- what a line (va, p) needs to enter line i
@@ -102,15 +103,41 @@ module _ {s : State} (c : Core s) (i va e x : ℕ) (f : (p : ℕ) → e ≡ suc 
           go zero w = omega (arith, za w)
           go (suc p) w = f p w .maps .address
 
+  -- what is stored with a page is that page's value in memory, and under write-through memory is as it was
+  line-policy : (m : List ℕ) → ((p : ℕ) → e ≡ suc p → x ≡ at (s .values .memory) p)
+      → (s .shape .policy ≡ writeThrough → (p : ℕ) → p < pages → at m p ≡ at (s .values .memory) p)
+      → PolicyPart (set (s .shape .cache .linePage) i e) m (set (s .values .line) i x) (s .shape .policy)
+  line-policy m copied kept =
+      record {
+        range = c .rule10 .policy;
+        rule11 =
+            record {
+              same = λ t j p hj hp w. stored? (s .values .line) (s .shape .cache .linePage) i x e j p w
+                  (λ _ z a. a (omega (arith, f p z .place, c .sized .line)) ∙ copied p z ∙ sym (kept t p hp))
+                  (λ _ z a. a ∙ c .rule11 .same t j p hj hp z ∙ sym (kept t p hp));
+            };
+      }
+
 -- ---- taken out
 
 module _ {s : State} (c : Core s) (i : ℕ) where
+  -- a place that holds a page is a line
+  a-line : {p : ℕ} → at (s .shape .cache .linePage) i ≡ suc p → i < lines
+  a-line e =
+      below? i lines (λ b. b) (λ b. absurd (omega (arith, at-past (s .shape .cache .linePage) i (omega (arith, c .sized .linePage)))))
+
   -- the page written to is a data page of a guest, if it is one
   written : lead (at (s .shape .cache .linePage) i) < pages → GuestData (s .shape) (lead (at (s .shape .cache .linePage) i))
-  written h =
-      let e = lead-holds (at (s .shape .cache .linePage) i) h in
-      below? i lines (λ b. line-page c b e)
-      (λ b. let z = at-past (s .shape .cache .linePage) i (omega (arith, c .sized .linePage)) in absurd (omega arith))
+  written h = let e = lead-holds (at (s .shape .cache .linePage) i) h in line-page c (a-line e) e
+
+  -- and under write-through it has the value already
+  rewritten : s .shape .policy ≡ writeThrough → (p : ℕ) → p < pages
+      → at (set (s .values .memory) (lead (at (s .shape .cache .linePage) i)) (at (s .values .line) i)) p ≡ at (s .values .memory) p
+  rewritten t p hp =
+      same-set (s .values .memory) (lead (at (s .shape .cache .linePage) i)) (at (s .values .line) i) p
+      (λ q.
+      let e : at (s .shape .cache .linePage) i ≡ suc p = lead-holds (at (s .shape .cache .linePage) i) (omega arith) ∙ ap suc (sym q) in
+      c .rule11 .same t i p (a-line e) hp e)
 
   pub takeOut-core : Core (takeOut s i)
   unfolding takeOut
@@ -118,15 +145,21 @@ module _ {s : State} (c : Core s) (i : ℕ) where
       core-from (memory-part c (lead (at (s .shape .cache .linePage) i)) (at (s .values .line) i) written
       (below-any (s .values .line) (c .sized .line) (omega arith) (c .rule10 .values .line) i)) (guests-of c)
       (line-part c i 0 0 0 (λ p w. absurd (omega arith)) (λ w. w) (λ w. w) (omega arith)) (tlb-of c)
+      (line-policy c i 0 0 0 (λ p w. absurd (omega arith)) memory (λ p w. absurd (omega arith)) rewritten)
+    where
+      memory : List ℕ
+      memory = set (s .values .memory) (lead (at (s .shape .cache .linePage) i)) (at (s .values .line) i)
 
 -- ---- entered
 
 pub enter-core : {s : State} → Core s → {i va p : ℕ} → Enters (s .shape) i va p → Core (enter s i va p)
 unfolding enter
 enter-core {s} c {i} {va} {p} n =
+    let entering : (q : ℕ) → suc p ≡ suc q → Enters (s .shape) i va q = λ q w. subst (λ (y : ℕ). Enters (s .shape) i va y) (omega arith) n in
     core-from (pages-of c) (guests-of c)
-    (line-part c i va (suc p) (at (s .values .memory) p) (λ q w. subst (λ (y : ℕ). Enters (s .shape) i va y) (omega arith) n) (λ w. absurd (omega arith))
+    (line-part c i va (suc p) (at (s .values .memory) p) entering (λ w. absurd (omega arith))
     (λ w. absurd (omega arith)) (c .rule10 .values .memory p (mapped-page c (n .maps) .page))) (tlb-of c)
+    (line-policy c i va (suc p) (at (s .values .memory) p) entering (s .values .memory) (λ q w. ap (at (s .values .memory)) (omega arith)) (λ t q hq. refl))
 
 -- no line: nothing enters
 pub enter-none : {s : State} → Core s → (va p : ℕ) → enter s noLine va p ≡ s

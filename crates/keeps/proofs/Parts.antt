@@ -1,16 +1,17 @@
--- The four parts of a state, and what each needs: the pages with their values in memory, the guests, the cache with its lines' values, the TLB.
+-- The five parts of a state, and what each needs: the pages with their values in memory, the guests, the cache with its lines' values, the TLB, and
+-- the policy with what it asks of the values in lines and memory.
 -- A step shows the parts that it changes, and takes the others as they were. Each need is over the lists that it reads, so that a part is as it
 -- was where these lists are.
 -- Assumes nothing.
-use mathlib.Core.Path.{_≡_, _∙_}
+use mathlib.Core.Path.{_≡_, sym, _∙_}
 use mathlib.Core.List.{List}
-use Prim.Native.Nat.{ℕ, _*_}
+use Prim.Native.Nat.{ℕ, suc, _*_, _<_}
 use lib.ListN.{length}
 use Rattle.laws.specs.Choice.{at}
-use Rattle.model.specs.Sizes.{guests, physicals, pages, addresses, sets, lines, slots, valueBound}
-use Rattle.model.specs.State.{Pages, Guests, Cache, Tlb, Shape, State}
-use Rattle.model.specs.Rules.{Maps, Line, Rule1, Rule2, Rule3, Rule4, Rule5, Rule6, Rule7, Below, PagesIn, GuestsIn, CacheIn, TlbIn}
-use Rattle.model.specs.Parts.{shaped, withGuests, withTlb}
+use Rattle.model.specs.Sizes.{guests, physicals, pages, addresses, sets, lines, slots, policies, valueBound}
+use Rattle.model.specs.State.{Pages, Guests, Cache, Tlb, Shape, Values, State}
+use Rattle.model.specs.Rules.{Maps, Line, Rule1, Rule2, Rule3, Rule4, Rule5, Rule6, Rule7, Rule11, Below, PagesIn, GuestsIn, CacheIn, TlbIn}
+use Rattle.model.specs.Parts.{shaped, withGuests, withTlb, withPolicy}
 use Rattle.keeps.proofs.Core.{Core}
 
 pub record PagesPart (p : Pages) (v : List ℕ) : Type 0 where
@@ -50,6 +51,10 @@ pub record TlbPart (t : Tlb) : Type 0 where
   pub slotPage : length (t .slotPage) ≡ slots
   pub ranges : TlbIn t
 
+pub record PolicyPart (linePage memory line : List ℕ) (policy : ℕ) : Type 0 where
+  pub range : policy < policies
+  pub rule11 : Rule11 linePage memory line policy
+
 -- ---- a state's parts
 
 -- what guests and lines need among the pages of a state
@@ -58,6 +63,9 @@ GuestsOf h g = GuestsPart (h .pages .owner) (h .pages .kind) (h .pages .physical
 
 abbrev pub CacheOf : Shape → Cache → List ℕ → Type 0
 CacheOf h c v = CachePart (h .pages .kind) (h .pages .cacheable) (h .pages .entry) c v
+
+abbrev pub PolicyOf : Shape → Values → Type 0
+PolicyOf h v = PolicyPart (h .cache .linePage) (v .memory) (v .line) (h .policy)
 
 module _ {s : State} (c : Core s) where
   pub pages-of : PagesPart (s .shape .pages) (s .values .memory)
@@ -104,11 +112,15 @@ module _ {s : State} (c : Core s) where
   pub tlb-of : TlbPart (s .shape .tlb)
   tlb-of = record { slotAddress = c .sized .slotAddress; slotPage = c .sized .slotPage; ranges = c .rule10 .tlb }
 
--- ---- and the state of four parts
+  pub policy-of : PolicyOf (s .shape) (s .values)
+  policy-of = record { range = c .rule10 .policy; rule11 = c .rule11 }
+
+-- ---- and the state of five parts
 
 pub core-from : {s : State} → PagesPart (s .shape .pages) (s .values .memory) → GuestsOf (s .shape) (s .shape .guests)
-    → CacheOf (s .shape) (s .shape .cache) (s .values .line) → TlbPart (s .shape .tlb) → Core s
-core-from p g c t =
+    → CacheOf (s .shape) (s .shape .cache) (s .values .line) → TlbPart (s .shape .tlb)
+    → PolicyOf (s .shape) (s .values) → Core s
+core-from p g c t w =
     record {
       sized =
           record {
@@ -143,16 +155,21 @@ core-from p g c t =
             cache = c .ranges;
             tlb = t .ranges;
             values = record { memory = p .values; line = c .values };
+            policy = w .range;
           };
+      rule11 = w .rule11;
     }
 
 -- one part alone
 
 pub guests-core : {s : State} {g : Guests} → Core s → GuestsOf (s .shape) g → Core (shaped s (withGuests (s .shape) g))
-guests-core c g = core-from (pages-of c) g (cache-of c) (tlb-of c)
+guests-core c g = core-from (pages-of c) g (cache-of c) (tlb-of c) (policy-of c)
 
 pub tlb-core : {s : State} {t : Tlb} → Core s → TlbPart t → Core (shaped s (withTlb (s .shape) t))
-tlb-core c t = core-from (pages-of c) (guests-of c) (cache-of c) t
+tlb-core c t = core-from (pages-of c) (guests-of c) (cache-of c) t (policy-of c)
+
+pub policy-core : {s : State} {p : ℕ} → Core s → PolicyOf (withPolicy (s .shape) p) (s .values) → Core (shaped s (withPolicy (s .shape) p))
+policy-core c p = core-from (pages-of c) (guests-of c) (cache-of c) (tlb-of c) p
 
 -- ---- the same lines among other pages
 
@@ -181,4 +198,16 @@ mapped-part r p =
       rule7 = r;
       ranges = p .ranges;
       values = p .values;
+    }
+
+-- ---- lines that were there before
+
+-- neither the value of a line changed nor that of its page in memory
+pub policy-kept : {K M L linePage memory line : List ℕ} {policy : ℕ} → PolicyPart K M L policy
+    → ((i p : ℕ) → i < lines → at linePage i ≡ suc p → (at K i ≡ suc p) × (at line i ≡ at L i) × (at memory p ≡ at M p))
+    → PolicyPart linePage memory line policy
+policy-kept w f =
+    record {
+      range = w .range;
+      rule11 = record { same = λ t i p hi hp e. let z = f i p hi e in z .1 ∙ w .rule11 .same t i p hi hp (z .0) ∙ sym (z .2) };
     }

@@ -18,7 +18,7 @@ use Rattle.model.specs.Read.{missLine, accessHistory, readStep}
 use Rattle.model.specs.Rules.{Leads, Below}
 use Rattle.model.specs.Valid.{Valid}
 use Rattle.keeps.proofs.Core.{Core, core-of, valid-of, leads-here, maps-here}
-use Rattle.keeps.proofs.Parts.{pages-of, guests-of, tlb-of, core-from}
+use Rattle.keeps.proofs.Parts.{pages-of, guests-of, tlb-of, policy-of, core-from}
 use Rattle.keeps.proofs.Lines.{Enters, takeOut-valid, enter-valid, enter-none}
 use Rattle.keeps.proofs.Tlb.{translate-valid}
 use Rattle.keeps.proofs.Sets.{noLine-outside, stealth-only, Key, line-key, Fills, filled?, accessHistory-size, accessHistory-below, accessHistory-begun}
@@ -40,7 +40,7 @@ history-core c l n b =
       ranges = record { lineAddress = c .rule10 .cache .lineAddress; linePage = c .rule10 .cache .linePage; history = b; empty = c .rule10 .cache .empty };
       values = c .rule10 .values .line;
     })
-    (tlb-of c)
+    (tlb-of c) (policy-of c)
 
 history-valid : {s : State} → Valid s → (l : List ℕ) → length l ≡ sets → Below l sets histories → at l stealthSet ≡ start
     → Valid (shaped s (withHistory (s .shape) l))

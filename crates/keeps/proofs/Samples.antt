@@ -5,19 +5,23 @@ use mathlib.Core.Path.{_≡_, refl, ap, ap₂, _∙_}
 use mathlib.Core.Bool.{Bool, true, false, _&&_}
 use mathlib.Core.List.{List, [], _∷_}
 use Prim.Native.Nat.{ℕ}
+use native.Mathlib.Omega.{arith}
 use lib.Dec.{ltb, eqb}
 use Rattle.laws.specs.Choice.{at, _⇔_}
 use Rattle.laws.specs.Search.{allIn, seekFrom, listFrom}
 use Rattle.laws.proofs.Tests.{and⇔, lt⇔, true⇔}
 use Rattle.laws.proofs.Search.{allIn⇔, Each}
 use Rattle.model.specs.Sizes.{byteBound}
+use Rattle.model.specs.Names.{writeBack, writeThrough}
 use Rattle.model.specs.State.{State}
 use Rattle.model.specs.Records.{Bytes}
 use Rattle.model.specs.Valid.{Valid}
 use Rattle.model.specs.Step.{Outcome, numberOf, valueOf, judge, step}
 use Rattle.model.specs.Journal.{recordsOf}
 use Rattle.model.specs.Samples.{Exchange, Sample, Group, passes, allPass, groupsPass, samples, nineJournal, allSamples}
+use Rattle.model.specs.ThroughSamples.{throughSamples, throughPass}
 use Rattle.model.proofs.Samples.{samples-pass}
+use Rattle.model.proofs.ThroughSamples.{through-pass}
 use Rattle.keeps.proofs.Accepted.{step-judge}
 use Rattle.keeps.proofs.Fresh.{fresh-valid}
 use Rattle.keeps.proofs.Keeps.{judge-keeps, run-judges}
@@ -76,20 +80,24 @@ same-all (x ∷ xs) b v =
     let d = and⇔ (true⇔ (exchanges? (x .records))) (true⇔ (rows? xs)) .0 b in
     ap₂ after (same-passes (x .records) (x .end) (x .end) (λ r w. refl) (d .0) v) (same-all xs (d .1) v)
 
-same-groups : (gs : List Group) → groups? gs ≡ true → groupsPass step gs ≡ groupsPass judge gs
+same-groups : (gs : List Group) → groups? gs ≡ true → {s : State} → Valid s → groupsPass step s gs ≡ groupsPass judge s gs
 unfolding groupsPass groups? after
-same-groups [] b = refl
-same-groups (g ∷ gs) b =
+same-groups [] b v = refl
+same-groups (g ∷ gs) b v =
     let d = and⇔ (and⇔ (true⇔ (exchanges? (g .start))) (true⇔ (rows? (g .rows)))) (true⇔ (groups? gs)) .0 b in
     ap₂ after
-    (same-passes (g .start) (λ s. allPass step s (g .rows)) (λ s. allPass judge s (g .rows)) (λ r w. same-all (g .rows) (d .0 .1) w) (d .0 .0) fresh-valid)
-    (same-groups gs (d .1))
+    (same-passes (g .start) (λ t. allPass step t (g .rows)) (λ t. allPass judge t (g .rows)) (λ r w. same-all (g .rows) (d .0 .1) w) (d .0 .0) v)
+    (same-groups gs (d .1) v)
 
 -- ---- the table
 
 samples-bytes : groups? samples ≡ true
 unfolding groups? rows? exchanges? seekFrom samples
 samples-bytes = refl
+
+through-bytes : groups? throughSamples ≡ true
+unfolding groups? rows? exchanges? seekFrom throughSamples
+through-bytes = refl
 
 nine-bytes : records? (recordsOf nineJournal) ≡ true
 unfolding records? seekFrom listFrom
@@ -98,8 +106,14 @@ nine-bytes = refl
 pub samples-pass-checked : allSamples step ≡ true
 unfolding allSamples
 samples-pass-checked =
+    let back = fresh-valid writeBack (omega arith) in
     rw (
-      same-groups samples samples-bytes,
-      run-judges fresh-valid (recordsOf nineJournal) (are-bytes (recordsOf nineJournal) nine-bytes),
+      same-groups samples samples-bytes back,
+      run-judges back (recordsOf nineJournal) (are-bytes (recordsOf nineJournal) nine-bytes),
     )
     samples-pass
+
+-- and under write-through
+pub through-pass-checked : throughPass step ≡ true
+unfolding throughPass
+through-pass-checked = same-groups throughSamples through-bytes (fresh-valid writeThrough (omega arith)) ∙ through-pass

@@ -18,7 +18,7 @@ use Rattle.model.specs.Rules.{Maps, Below, Rule6, Rule7, Leads, Rule9}
 use Rattle.model.specs.Parts.{shaped, loseMark, cleared, takeOutPage}
 use Rattle.model.specs.Valid.{Valid}
 use Rattle.keeps.proofs.Core.{Core, GuestData, core-of, valid-of, leads-maps}
-use Rattle.keeps.proofs.Parts.{guests-of, tlb-of, core-from, line-among}
+use Rattle.keeps.proofs.Parts.{guests-of, tlb-of, policy-of, core-from, line-among, policy-kept}
 use Rattle.keeps.proofs.Stores.{size-set, below-set, below-any, rule2-page}
 use Rattle.keeps.proofs.Entries.{NoLine}
 
@@ -50,14 +50,14 @@ module _ (linePage : List ℕ) (q : ℕ) where
   below-cleared : (l : List ℕ) {b : ℕ} → 0 < b → Below l lines b → Below (cleared linePage q l) lines b
   below-cleared l {b} z h j hj = either (λ (x : ℕ). x < b) l j hj z (h j hj)
 
-  -- a line that is left is of another page, and has its address
-  pub left : (lineAddress : List ℕ) (j p : ℕ) → j < lines → at (cleared linePage q linePage) j ≡ suc p
-      → (at linePage j ≡ suc p) × (p ≢ q) × (at (cleared linePage q lineAddress) j ≡ at lineAddress j)
-  left lineAddress j p hj e =
+  -- a line that is left is of another page, and has what stood beside it
+  pub left : (beside : List ℕ) (j p : ℕ) → j < lines → at (cleared linePage q linePage) j ≡ suc p
+      → (at linePage j ≡ suc p) × (p ≢ q) × (at (cleared linePage q beside) j ≡ at beside j)
+  left beside j p hj e =
       same? (at linePage j) (suc q) (λ w. absurd (omega (arith, gone linePage j hj w)))
       (λ n.
       let z : at linePage j ≡ suc p = sym (kept linePage j hj n) ∙ e in
-      (z, (λ w. n (z ∙ ap suc w)), kept lineAddress j hj n))
+      (z, (λ w. n (z ∙ ap suc w)), kept beside j hj n))
 
 -- ---- at the level of lists
 
@@ -165,6 +165,9 @@ module _ {s : State} (c : Core s) (q : ℕ) (guest : q < pages → GuestData (s 
         values = below-cleared (C .linePage) q (s .values .line) (omega arith) (c .rule10 .values .line);
       })
       (tlb-of c)
+      (policy-kept (policy-of c) (λ j p hj e.
+      let d = left (C .linePage) q (s .values .line) j p hj e in
+      (d .0, d .2, at-other (s .values .memory) q (present s q) p (d .1))))
 
 pub uncached-valid : {s : State} (q : ℕ) → (q < pages → GuestData (s .shape) q)
     → ((m : ℕ) → Maps (s .shape .pages .kind) (s .shape .pages .entry) m stealth q → ⊥) → Valid s → Valid (uncached s q)

@@ -22,6 +22,10 @@ size-set l i x e = length-set l i x ∙ e
 pub below-set : (l : List ℕ) {n b : ℕ} (i x : ℕ) → x < b → Below l n b → Below (set l i x) n b
 below-set l {b = b} i x h v j hj = at-any (λ (y : ℕ). y < b) l i x j h (v j hj)
 
+-- a store of what stands there already changes nothing
+pub same-set : (l : List ℕ) (i x j : ℕ) → (j ≡ i → x ≡ at l j) → at (set l i x) j ≡ at l j
+same-set l i x j h = same? j i (λ e. at-any (λ (y : ℕ). y ≡ at l j) l i x j (h e) refl) (at-other l i x j)
+
 -- what is read anywhere is in range, for past its end a list reads 0
 pub below-any : (l : List ℕ) {n b : ℕ} → length l ≡ n → 0 < b → Below l n b → (i : ℕ) → at l i < b
 below-any l {n} e z v i = below? i n (λ h. v i h) (λ h. let y = at-past l i (omega arith) in omega arith)

@@ -1,1 +1,2 @@
 pub mod Stealth
+pub mod Policy

@@ -1,4 +1,4 @@
--- What rules 7, 8 and 9 test at one line or slot of a state.
+-- What rules 7, 8, 9 and 11 test at one line or slot of a state.
 -- Assumes nothing.
 use mathlib.Core.Bool.{Bool, _&&_, not}
 use Prim.Native.Nat.{ℕ, _+_, _*_, _/_}
@@ -7,7 +7,7 @@ use Rattle.laws.specs.Choice.{pick, at, _⇒_}
 use Rattle.laws.specs.Search.{someBelow}
 use Rattle.model.specs.Sizes.{pages, addresses, ways, lines, stealth, setOf, slotOf}
 use Rattle.model.specs.Names.{kindData}
-use Rattle.model.specs.State.{State, isPage, table, stealthLine}
+use Rattle.model.specs.State.{State, lead, isPage, isThrough, table, stealthLine}
 use Rattle.model.specs.RuleTests.{leadsTo}
 use Rattle.numbers.specs.Lead.{leadOf, leadsAt}
 use Rattle.asks.specs.Maps.{mapsPageOf}
@@ -35,3 +35,12 @@ unfoldable pub firstWay : State → ℕ → Bool
 firstWay s p =
     pick (isPage p) (leadsAt (leadOf (at (s .shape .cache .linePage) stealthLine)) p && eqb (at (s .shape .cache .lineAddress) stealthLine) stealth)
     (eqb (at (s .shape .cache .linePage) stealthLine) 0)
+
+-- 11, at line i of page p; and at line i
+unfoldable pub throughBy : State → ℕ → ℕ → Bool
+throughBy s i p = isThrough (s .shape) ⇒ eqb (at (s .values .line) i) (at (s .values .memory) p)
+
+unfoldable pub through : State → ℕ → Bool
+through s i =
+    isThrough (s .shape) && isPage (lead (at (s .shape .cache .linePage) i))
+    ⇒ eqb (at (s .values .line) i) (at (s .values .memory) (lead (at (s .shape .cache .linePage) i)))

@@ -1,4 +1,4 @@
-// What rules 7 and 8 test at one line or slot, and rule 9.
+// What rules 7, 8 and 11 test at one line or slot, and rule 9.
 use host::CACHEABLE;
 use host::Host;
 use host::KIND_DATA;
@@ -8,12 +8,13 @@ use host::STEALTH;
 use host::STEALTH_LINE;
 use host::STEALTH_SET;
 use host::Va;
+use host::WRITE_THROUGH;
 ghost use mathlib.Core.Path.{_≡_};
 ghost use Prim.Native.Nat.{_+_, _/_, _%_, _<_};
 ghost use Rattle.model.specs.State.{table};
 ghost use Rattle.model.specs.RuleTests.{stealthPage, rule9?};
 ghost use Rattle.host.specs.View.{view};
-ghost use Rattle.lines.specs.Lines.{linedBy, lined, slotBy, slotted, firstWay};
+ghost use Rattle.lines.specs.Lines.{linedBy, lined, slotBy, slotted, firstWay, throughBy, through};
 
 const ADDRESSES: u8 = host::ADDRESSES as u8;
 
@@ -103,4 +104,21 @@ pub fn stealth_kept(h: &Host) -> bool
     let first = first_way(h, stealth_page(h, table_in_force(h)));
     let second = host::line_empty(h, STEALTH_LINE + 1);
     first & second & (host::history(h, STEALTH_SET) == 0)
+}
+
+fn through_by(h: &Host, i: u8, p: Ma) -> bool
+    ensures { λ r. ⌜ r ≡ throughBy (view (now (h .entry))) i (p .0) ⌝ }
+{
+    let same = host::line_value(h, i as usize) == host::memory(h, p);
+    seek::implies(host::policy(h) == WRITE_THROUGH, same)
+}
+
+pub fn through(h: &Host, i: u8) -> bool
+    ensures { λ r. ⌜ r ≡ through (view (now (h .entry))) i ⌝ }
+{
+    let l = host::line_page(h, i as usize);
+    match l {
+        Lead::To(p) => through_by(h, i, p),
+        Lead::Nowhere => true,
+    }
 }

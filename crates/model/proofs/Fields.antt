@@ -139,6 +139,7 @@ state-back s v =
             guests = s .shape .guests;
             cache = s .shape .cache;
             tlb = s .shape .tlb;
+            policy = s .shape .policy;
           };
       values = record { memory = memory i; line = line i };
     }
@@ -150,7 +151,7 @@ fields-sized s z =
     let l : length (wordsBytes (s .values .line)) ≡ lines * 4 = length-wordsBytes (s .values .line) ∙ ap (λ (n : ℕ). n * 4) (z .line) in
     λ i.
     z .owner i ∷ z .kind i ∷ z .cacheable i ∷ z .entry i ∷ z .physical i ∷ 8 ∷ z .current i ∷ z .call i ∷ z .callA i ∷ z .callB i ∷ 1 ∷ 1
-    ∷ z .lineAddress i ∷ z .linePage i ∷ z .history i ∷ z .slotAddress i ∷ z .slotPage i ∷ m i ∷ l i ∷ []
+    ∷ z .lineAddress i ∷ z .linePage i ∷ z .history i ∷ z .slotAddress i ∷ z .slotPage i ∷ m i ∷ l i ∷ 1 ∷ []
 
 -- the fields of the state that bytes are, are those bytes
 pub state-fields-back : (xs : List ℕ) → length xs ≡ total fieldSizes → Small xs → stateFields (stateOf (cut fieldSizes xs)) ≡ cut fieldSizes xs
@@ -160,4 +161,5 @@ state-fields-back xs l h =
     let b : (k : ℕ) → Small (p k) = λ k. cut-bytes fieldSizes k xs h in
     λ i.
     p 0 ∷ p 1 ∷ p 2 ∷ p 3 ∷ p 4 ∷ eight-back (p 5) (z 5) (b 5) i ∷ p 6 ∷ p 7 ∷ p 8 ∷ p 9 ∷ one-back (p 10) (z 10) i ∷ one-back (p 11) (z 11) i ∷ p 12
-    ∷ p 13 ∷ p 14 ∷ p 15 ∷ p 16 ∷ words-bytes-back pages (p 17) (z 17) (b 17) i ∷ words-bytes-back lines (p 18) (z 18) (b 18) i ∷ []
+    ∷ p 13 ∷ p 14 ∷ p 15 ∷ p 16 ∷ words-bytes-back pages (p 17) (z 17) (b 17) i ∷ words-bytes-back lines (p 18) (z 18) (b 18) i
+    ∷ one-back (p 19) (z 19) i ∷ []

@@ -12,3 +12,4 @@ pub mod Image
 pub mod Saving
 pub mod Pieces
 pub mod PieceSamples
+pub mod ThroughSamples

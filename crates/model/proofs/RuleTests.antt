@@ -17,12 +17,12 @@ use Rattle.laws.proofs.Tests.{eq⇔, lt⇔, le⇔, and⇔, or⇔, imp⇔, not�
 use Rattle.laws.proofs.Search.{some⇔, all⇔, allIn⇔, Each, each⇔}
 use Rattle.laws.proofs.Grid.{allGrid⇔, someGrid⇔}
 use Rattle.model.specs.Sizes.{guests, physicals, pages, addresses, firstHostPage, firstFreePage, ways, lines, slots, stealth, stealthSet, reserved, setOf, slotOf, calls}
-use Rattle.model.specs.Names.{ownerNone, ownerHost, ownerGuest, kindNone, kindData, kindTable, running}
+use Rattle.model.specs.Names.{ownerNone, ownerHost, ownerGuest, kindNone, kindData, kindTable, running, writeThrough}
 use Rattle.model.specs.State.{State, lead, isPage, nowhere, stealthLine, lineAt, mapsPage}
 use Rattle.model.specs.History.{start}
 use Rattle.model.specs.Records.{Row, within, rowOf, kindOfCall}
-use Rattle.model.specs.Rules.{Stored, Within, Maps, Rule1, Rule2, Rule3, Rule4, Rule5, Rule6, Rule7, Rule8, Leads, Rule9, Below, Rule10}
-use Rattle.model.specs.RuleTests.{leadsTo, stored, fits, rule1?, rule2?, rule3?, rule4?, rule5?, mapsTwice, rule6?, rule7?, rule8?, stealthPage, rule9?, column, columns, inRange, rule10?}
+use Rattle.model.specs.Rules.{Stored, Within, Maps, Rule1, Rule2, Rule3, Rule4, Rule5, Rule6, Rule7, Rule8, Leads, Rule9, Below, Rule10, Rule11}
+use Rattle.model.specs.RuleTests.{leadsTo, stored, fits, rule1?, rule2?, rule3?, rule4?, rule5?, mapsTwice, rule6?, rule7?, rule8?, stealthPage, rule9?, column, columns, inRange, rule10?, rule11?}
 use Rattle.model.specs.Valid.{Sized}
 
 -- ---- a place that holds a page plus one
@@ -62,7 +62,7 @@ mapsPage⇔ kind entry {t} {T} h p size =
     (λ w. (w .0, w .1, w .4 .0 .1, record { page = w .2; address = w .3; isTable = w .4 .1; holds = w .4 .0 .0 }))
     (λ w. (w .0, w .1, w .3 .page, w .3 .address, ((w .3 .holds, w .2), w .3 .isTable)))
 
--- ---- the ten rules
+-- ---- the eleven rules
 
 pub within⇔ : (r : Row) (a b : ℕ) → within r a b ⇔ Within r a b
 within⇔ r a b =
@@ -315,7 +315,7 @@ only {x} {b} h i l = let z : i ≡ 0 = omega arith in subst (λ (k : ℕ). at (x
 every-column : (s : State) → Sized s → Each (λ c. inRange c ⇔ Below (c .numbers) (c .size) (c .bound)) (columns s)
 unfolding columns
 every-column s z =
-    (many (s .shape .pages .owner) (z .owner), (many (s .shape .pages .kind) (z .kind), (many (s .shape .pages .cacheable) (z .cacheable), (many (s .shape .pages .entry) (z .entry), (many (s .shape .pages .physical) (z .physical), (one (s .shape .pages .free), (many (s .shape .guests .current) (z .current), (many (s .shape .guests .call) (z .call), (many (s .shape .guests .callA) (z .callA), (many (s .shape .guests .callB) (z .callB), (one (s .shape .guests .active), (one (s .shape .guests .mode), (many (s .shape .cache .lineAddress) (z .lineAddress), (many (s .shape .cache .linePage) (z .linePage), (many (s .shape .cache .history) (z .history), (many (s .shape .tlb .slotAddress) (z .slotAddress), (many (s .shape .tlb .slotPage) (z .slotPage), (many (s .values .memory) (z .memory), (many (s .values .line) (z .line), tt)))))))))))))))))))
+    (many (s .shape .pages .owner) (z .owner), (many (s .shape .pages .kind) (z .kind), (many (s .shape .pages .cacheable) (z .cacheable), (many (s .shape .pages .entry) (z .entry), (many (s .shape .pages .physical) (z .physical), (one (s .shape .pages .free), (many (s .shape .guests .current) (z .current), (many (s .shape .guests .call) (z .call), (many (s .shape .guests .callA) (z .callA), (many (s .shape .guests .callB) (z .callB), (one (s .shape .guests .active), (one (s .shape .guests .mode), (many (s .shape .cache .lineAddress) (z .lineAddress), (many (s .shape .cache .linePage) (z .linePage), (many (s .shape .cache .history) (z .history), (many (s .shape .tlb .slotAddress) (z .slotAddress), (many (s .shape .tlb .slotPage) (z .slotPage), (many (s .values .memory) (z .memory), (many (s .values .line) (z .line), (one (s .shape .policy), tt))))))))))))))))))))
   where
     many : (l : List ℕ) {n b : ℕ} → length l ≡ n → allIn (λ i x. ltb x b) l ⇔ Below l n b
     many l {n} {b} e = below⇔ l n b e
@@ -345,5 +345,19 @@ rule10⇔ s z =
       cache = record { lineAddress = r .1 .1 .1 .1 .1 .1 .1 .1 .1 .1 .1 .1 .0; linePage = r .1 .1 .1 .1 .1 .1 .1 .1 .1 .1 .1 .1 .1 .0; history = r .1 .1 .1 .1 .1 .1 .1 .1 .1 .1 .1 .1 .1 .1 .0; empty = w .0 .1 };
       tlb = record { slotAddress = r .1 .1 .1 .1 .1 .1 .1 .1 .1 .1 .1 .1 .1 .1 .1 .0; slotPage = r .1 .1 .1 .1 .1 .1 .1 .1 .1 .1 .1 .1 .1 .1 .1 .1 .0; empty = w .1 };
       values = record { memory = r .1 .1 .1 .1 .1 .1 .1 .1 .1 .1 .1 .1 .1 .1 .1 .1 .1 .0; line = r .1 .1 .1 .1 .1 .1 .1 .1 .1 .1 .1 .1 .1 .1 .1 .1 .1 .1 .0 };
+      policy = r .1 .1 .1 .1 .1 .1 .1 .1 .1 .1 .1 .1 .1 .1 .1 .1 .1 .1 .1 .0 0 (omega arith);
     })
-    (λ w. ((((w .pages .owner, (w .pages .kind, (w .pages .cacheable, (w .pages .entry, (w .pages .physical, (only (w .pages .free), (w .guests .current, (w .guests .call, (w .guests .callA, (w .guests .callB, (only (w .guests .active), (only (w .guests .mode), (w .cache .lineAddress, (w .cache .linePage, (w .cache .history, (w .tlb .slotAddress, (w .tlb .slotPage, (w .values .memory, (w .values .line, tt))))))))))))))))))), w .guests .arguments), w .cache .empty), w .tlb .empty))
+    (λ w. ((((w .pages .owner, (w .pages .kind, (w .pages .cacheable, (w .pages .entry, (w .pages .physical, (only (w .pages .free), (w .guests .current, (w .guests .call, (w .guests .callA, (w .guests .callB, (only (w .guests .active), (only (w .guests .mode), (w .cache .lineAddress, (w .cache .linePage, (w .cache .history, (w .tlb .slotAddress, (w .tlb .slotPage, (w .values .memory, (w .values .line, (only (w .policy), tt)))))))))))))))))))), w .guests .arguments), w .cache .empty), w .tlb .empty))
+
+pub rule11⇔ : (linePage memory line : List ℕ) (policy : ℕ) → rule11? linePage memory line policy ⇔ Rule11 linePage memory line policy
+unfolding rule11?
+rule11⇔ linePage memory line policy =
+    as⇔
+    (all⇔ lines (λ i h.
+    imp⇔ (and⇔ (eq⇔ policy writeThrough) (lt⇔ (lead (at linePage i)) pages)) (eq⇔ (at line i) (at memory (lead (at linePage i))))))
+    (λ w. record {
+      same = λ t i p h b e.
+          let q : lead (at linePage i) ≡ p = ap lead e ∙ lead-page p b in
+          w i h (t, omega arith) ∙ ap (at memory) q;
+    })
+    (λ v i h (t, b). v .same t i (lead (at linePage i)) h b (lead-holds (at linePage i) b))

@@ -5,7 +5,7 @@ use mathlib.Core.Bool.{true, _&&_}
 use Rattle.laws.specs.Search.{firstFrom, seekFrom, listFrom}
 use Rattle.laws.specs.Bits.{bit, marked, unmarked}
 use Rattle.model.specs.State.{table, mapsPage, hitWay, lineOfPage, present}
-use Rattle.model.specs.Fresh.{freshPages, freshGuests, freshCache, fresh}
+use Rattle.model.specs.Fresh.{freshPages, freshGuests, freshCache, freshWith, fresh}
 use Rattle.model.specs.Records.{decode}
 use Rattle.model.specs.Checks.{hasEntries, lowestFree, asked}
 use Rattle.model.specs.Parts.{takeOut, takeOutPage, enter, wayFor, loadStealth}
@@ -27,8 +27,8 @@ use Rattle.model.specs.Run.{runBy}
 use Rattle.model.specs.Journal.{hasHeader, formRefusal}
 use Rattle.model.specs.Samples.{passes, allPass, groupsPass, samples, nineRight, ninePlayed, journalsPass, allSamples}
 
-runs-pass : groupsPass judge samples && ninePlayed judge ≡ true
-unfolding firstFrom seekFrom listFrom bit marked unmarked table mapsPage hitWay lineOfPage present freshPages freshGuests freshCache fresh decode hasEntries lowestFree asked takeOut takeOutPage enter wayFor loadStealth accessWay missLine accessHistory readStep store writeStep share newStep newSmStep delStep switchStep lswitchStep hcallStep retCtrlStep chmodStep pinStep unpinStep dropStep ownChecks refusal next value act judge passes allPass groupsPass samples runBy nineRight
+runs-pass : groupsPass judge fresh samples && ninePlayed judge ≡ true
+unfolding firstFrom seekFrom listFrom bit marked unmarked table mapsPage hitWay lineOfPage present freshPages freshGuests freshCache freshWith decode hasEntries lowestFree asked takeOut takeOutPage enter wayFor loadStealth accessWay missLine accessHistory readStep store writeStep share newStep newSmStep delStep switchStep lswitchStep hcallStep retCtrlStep chmodStep pinStep unpinStep dropStep ownChecks refusal next value act judge passes allPass groupsPass samples runBy nineRight
 runs-pass = refl
 
 journals-pass : journalsPass ≡ true

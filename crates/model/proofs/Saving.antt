@@ -1,29 +1,30 @@
 -- Opening, loading and saving: what is refused, and by which number; what was saved loads to the same state, what was loaded saves to the same
--- bytes; a byte out of its range is refused with 1.
+-- bytes, and from the first version to those of the version that is written; a byte out of its range is refused with 1.
 -- Assumes nothing.
 use mathlib.Core.Path.{_≡_, refl, sym, ap, subst, _∙_}
 use mathlib.Core.Logic.{_≢_}
-use mathlib.Core.List.{List, [], _∷_}
+use mathlib.Core.List.{List, [], _∷_, _++_}
 use Prim.Native.Nat.{ℕ, zero, suc, _+_, _≤_, _<_}
 use native.Mathlib.Omega.{arith}
 use lib.Dec.{eqb}
 use lib.ListN.{length, drop}
-use lib.Seq.{getD-drop}
 use Rattle.laws.specs.Choice.{at}
 use Rattle.laws.specs.Cut.{cut, begin, size, part, total}
 use Rattle.laws.proofs.Cases.{split, pick-both}
 use Rattle.laws.proofs.Tests.{eq⇔, fails, not-so}
+use Rattle.laws.proofs.Lists.{at-past}
 use Rattle.laws.proofs.Cut.{cut-get}
 use Rattle.model.specs.Sizes.{imageHeadBytes}
+use Rattle.model.specs.Names.{writeBack}
 use Rattle.model.specs.State.{State}
 use Rattle.model.specs.Records.{Bytes}
 use Rattle.model.specs.Rules.{Below}
 use Rattle.model.specs.Valid.{Valid, valid?}
 use Rattle.model.specs.Fields.{fieldSizes, fieldBounds, Small, stateOf, stateFields}
-use Rattle.model.specs.Image.{imageBytes, isImage, Image, imageOf, held, done, notValid, notImage, imageNumber, Read, opened, loaded, Written, saved}
+use Rattle.model.specs.Image.{firstVersion, firstFields, lengths, versionWritten, imageBytes, versionIn, head, isImage, Image, imageOf, fieldsIn, held, done, notValid, notImage, imageNumber, Read, opened, loaded, Written, saved}
 use Rattle.model.proofs.Valid.{valid⇔}
 use Rattle.model.proofs.Fields.{state-fields-back, words-small, long-small}
-use Rattle.model.proofs.Image.{image⇔, rest-small, rest-long, image-is, image-held, held-image}
+use Rattle.model.proofs.Image.{image⇔, fields-at, rest-small, fields-first, rest-long, image-is, image-held, held-written, held-image}
 
 -- ---- each answer, and when it is given
 
@@ -106,14 +107,35 @@ saved-loads s b e t =
     ∙ load-valid t (imageOf s) (image-is s (v .sized)) (subst Valid (sym k) v)
     ∙ ap (λ (u : State). record { answer = done; state = u }) k
 
--- what was loaded saves, to any buffer of its length, as the bytes that were loaded
-pub loaded-saves : (s : State) (i : List ℕ) → Bytes i → loaded s i .answer ≡ done → (b : List ℕ) → length b ≡ imageBytes
-    → saved (loaded s i .state) b ≡ record { answer = done; buffer = i }
-loaded-saves s i w e b l =
+-- what was loaded saves, to any buffer of that length: its fields behind the head that is written
+loaded-written : (s : State) (i : List ℕ) → Bytes i → loaded s i .answer ≡ done → (b : List ℕ) → length b ≡ imageBytes
+    → saved (loaded s i .state) b ≡ record { answer = done; buffer = head ++ fieldsIn i }
+loaded-written s i w e b l =
     let m = load-done s i e in
     ap (λ (r : Read). saved (r .state) b) (load-valid s i (m .0) (m .1))
     ∙ save-valid (held i) b (m .1) l
-    ∙ ap (λ (c : List ℕ). record { answer = done; buffer = c }) (held-image i w (m .0))
+    ∙ ap (λ (c : List ℕ). record { answer = done; buffer = c }) (held-written i w (m .0))
+
+-- of the version that is written the same bytes
+pub loaded-saves : (s : State) (i : List ℕ) → Bytes i → versionIn i ≡ versionWritten → loaded s i .answer ≡ done → (b : List ℕ) → length b ≡ imageBytes
+    → saved (loaded s i .state) b ≡ record { answer = done; buffer = i }
+loaded-saves s i w v e b l =
+    let m = load-done s i e .0 in
+    loaded-written s i w e b l ∙ ap (λ (c : List ℕ). record { answer = done; buffer = c }) (sym (held-written i w m) ∙ held-image i w m v)
+
+-- of the first version its fields and write-back
+pub first-saves : (s : State) (i : List ℕ) → Bytes i → versionIn i ≡ firstVersion → loaded s i .answer ≡ done → (b : List ℕ) → length b ≡ imageBytes
+    → saved (loaded s i .state) b ≡ record { answer = done; buffer = head ++ (drop imageHeadBytes i ++ (writeBack ∷ [])) }
+first-saves s i w v e b l =
+    loaded-written s i w e b l ∙ ap (λ (r : List ℕ). record { answer = done; buffer = head ++ r }) (fields-first i v)
+
+-- and it is write-back
+pub first-back : (i : List ℕ) → Image i → versionIn i ≡ firstVersion → held i .shape .policy ≡ writeBack
+unfolding held
+first-back i m v =
+    let l : length i ≡ at lengths firstVersion = m .long ∙ ap (at lengths) v in
+    sym (cut-get fieldSizes firstFields 0 (fieldsIn i) (omega arith)) ∙ fields-at i (begin fieldSizes firstFields + 0)
+    ∙ at-past i (imageHeadBytes + (begin fieldSizes firstFields + 0)) (omega arith)
 
 -- ---- a byte out of its range
 
@@ -137,7 +159,7 @@ fields-within s v =
     let C = v .rule10 .cache in
     let T = v .rule10 .tlb in
     let tail : Within (drop 12 fieldSizes) (drop 12 fieldBounds) (drop 12 (stateFields s)) =
-    (C .lineAddress, (C .linePage, (C .history, (T .slotAddress, (T .slotPage, (λ k h. words-small (s .values .memory) k, (λ k h. words-small (s .values .line) k, tt))))))) in (
+    (C .lineAddress, (C .linePage, (C .history, (T .slotAddress, (T .slotPage, (λ k h. words-small (s .values .memory) k, (λ k h. words-small (s .values .line) k, (one-below (v .rule10 .policy), tt)))))))) in (
       P .owner,
       (
         P .kind,
@@ -179,11 +201,11 @@ pub out-of-range : (s : State) (i : List ℕ) → Bytes i → Image i → (f k :
 unfolding held
 out-of-range s i w m f k h past =
     load-invalid s i m (λ v.
-    let xs : List ℕ = drop imageHeadBytes i in
+    let xs : List ℕ = fieldsIn i in
     let small : Small xs = rest-small i w in
     let l : length xs ≡ total fieldSizes = rest-long i m in
     let e : at i (imageHeadBytes + (begin fieldSizes f + k)) ≡ at (part (cut fieldSizes xs) f) k =
-    sym (getD-drop imageHeadBytes i (begin fieldSizes f + k) 0) ∙ cut-get fieldSizes f k xs h in
+    sym (fields-at i (begin fieldSizes f + k)) ∙ cut-get fieldSizes f k xs h in
     let g : at (part (stateFields (stateOf (cut fieldSizes xs))) f) k ≡ at (part (cut fieldSizes xs) f) k =
     ap (λ (ps : List (List ℕ)). at (part ps f) k) (state-fields-back xs l small) in
     let b = within-at fieldSizes fieldBounds (stateFields (held i)) (fields-within (held i) v) f k h in

@@ -10,7 +10,7 @@ use Rattle.laws.specs.Bits.{marked, unmarked}
 use Rattle.model.specs.Sizes.{guests, physicals, pages, addresses}
 use Rattle.model.specs.Names.{ownerGuest}
 use Rattle.model.specs.State.{State, table}
-use Rattle.model.specs.RuleTests.{rule1?, rule2?, rule3?, rule4?, rule5?, rule6?, rule7?, rule8?, rule9?, rule10?}
+use Rattle.model.specs.RuleTests.{rule1?, rule2?, rule3?, rule4?, rule5?, rule6?, rule7?, rule8?, rule9?, rule10?, rule11?}
 use Rattle.model.specs.Valid.{sized?}
 
 -- ---- the tests of a state: place n is rule n's, place 0 that of the sizes
@@ -28,6 +28,7 @@ ruleTests =
     ∷ (λ s. rule8? (s .shape .pages .entry) (s .shape .tlb .slotAddress) (s .shape .tlb .slotPage) (table (s .shape)))
     ∷ (λ s. rule9? (s .shape .pages .entry) (s .shape .cache .lineAddress) (s .shape .cache .linePage) (s .shape .cache .history) (table (s .shape)))
     ∷ rule10?
+    ∷ (λ s. rule11? (s .shape .cache .linePage) (s .values .memory) (s .values .line) (s .shape .policy))
     ∷ []
 
 abbrev pub ruleTest : ℕ → State → Bool
@@ -79,6 +80,9 @@ history k x = puts 14 k x
 
 abbrev pub memory : ℕ → ℕ → Change
 memory p v = puts 17 p v
+
+abbrev pub policy : ℕ → Change
+policy x = puts 19 0 x
 
 -- guest g's call, line i and slot i as wholes
 abbrev pub calling : ℕ → ℕ → ℕ → ℕ → List Change
@@ -138,6 +142,7 @@ changedBy s c =
                   history = change c 14 (C .history);
                 };
             tlb = record { slotAddress = change c 15 (T .slotAddress); slotPage = change c 16 (T .slotPage) };
+            policy = changeOne c 19 (s .shape .policy);
           };
       values = record { memory = change c 17 (s .values .memory); line = change c 18 (s .values .line) };
     }

@@ -1,15 +1,15 @@
 -- docs/HOST.md, "Valid states", as one table of damaged states: for each clause of each rule a state that breaks it, and for readings that were
 -- decided a state that does not. A row is a few numbers changed in the fresh machine, or in one machine in use; the rule it is about; and the
--- rules that are broken there, that one alone wherever this is possible. Here each row's own rule is tested; `damage` tests all ten.
+-- rules that are broken there, that one alone wherever this is possible. Here each row's own rule is tested; `damage` tests all eleven.
 -- Places hold a page plus one. Pages and addresses are spelled, at the edges of the sizes where it can be.
 -- Assumes nothing.
 use mathlib.Core.Bool.{Bool, _&&_, Bool·beq}
 use mathlib.Core.List.{List, [], _∷_, _++_}
-use Prim.Native.Nat.{suc, _+_, _*_, _%_}
+use Prim.Native.Nat.{suc}
 use lib.Dec.{eqb}
 use Rattle.laws.specs.Search.{allIn}
-use Rattle.model.specs.Sizes.{guests, physicals, pages, addresses, firstReserved, stealth, stealthSet, calls, marksBound, valueBound}
-use Rattle.model.specs.Names.{ownerNone, ownerHost, ownerGuest, kindNone, kindData, kindTable, waiting, running}
+use Rattle.model.specs.Sizes.{guests, physicals, pages, addresses, firstReserved, stealth, stealthSet, calls, marksBound, policies, valueBound}
+use Rattle.model.specs.Names.{ownerNone, ownerHost, ownerGuest, kindNone, kindData, kindTable, waiting, running, writeThrough}
 use Rattle.model.specs.State.{State, stealthLine}
 use Rattle.model.specs.History.{start, histories}
 use Rattle.model.specs.Fresh.{fresh}
@@ -17,7 +17,7 @@ use Rattle.model.specs.Records.{write, callNone, callNew, callDel, callL
 use Rattle.model.specs.Step.{judge, step, numberOf}
 use Rattle.model.specs.Journal.{journalRefusal}
 use Rattle.model.specs.Samples.{Exchange, passes, does, pins, maps, hides}
-use Rattle.model.specs.Damage.{ruleTest, Change, owner, kind, cacheable, entry, physical, frees, takes, current, active, mode, history, memory, calling, lined, slotted, owned, given, changed, Damage, breaks, with, spares, noOwner, leadsNowhere}
+use Rattle.model.specs.Damage.{ruleTest, Change, owner, kind, cacheable, entry, physical, frees, takes, current, active, mode, history, memory, policy, calling, lined, slotted, owned, given, changed, Damage, breaks, with, spares, noOwner, leadsNowhere}
 
 -- ---- the fresh machine, damaged
 
@@ -133,6 +133,8 @@ freshNumbers =
     -- histories, values in memory
     ∷ breaks 10 (history 0 histories ∷ [])
     ∷ breaks 10 (memory 63 valueBound ∷ given 3 15 63 kindData)
+    -- the policy
+    ∷ breaks 10 (policy policies ∷ [])
     -- empty places hold zeros: the arguments of no call
     ∷ breaks 10 (calling 3 callNone 1 0)
     ∷ breaks 10 (calling 3 callNone 0 1)
@@ -226,6 +228,28 @@ usedSlots =
     ∷ breaks 10 (lined 0 0 9 valueBound)
     ∷ []
 
+-- Page 8 has 300 in its line and 0 in memory, page 9 0 in both.
+unfoldable pub usedPolicies : List Damage
+usedPolicies =
+    -- 11. Under write-through each line's value is its page's in memory: of the first line, the stealth page's and the last that a set but 7 has
+    breaks 11 (policy writeThrough ∷ [])
+    ∷ breaks 11 (policy writeThrough ∷ memory 8 30 ∷ [])
+    ∷ breaks 11 (policy writeThrough ∷ memory 8 300 ∷ lined stealthLine 7 10 5)
+    ∷ breaks 11 (policy writeThrough ∷ memory 8 300 ∷ entry 10 6 12 ∷ lined 13 6 12 7)
+    ∷ spares 11 [] (policy writeThrough ∷ memory 8 300 ∷ [])
+    ∷ spares 11 [] (policy writeThrough ∷ memory 8 300 ∷ memory 9 5 ∷ lined stealthLine 7 10 5)
+    -- of two lines of a page each
+    ∷ with 11 (7 ∷ []) (policy writeThrough ∷ memory 8 300 ∷ lined 1 8 9 0)
+    -- write-back says nothing of a line, and a number past the last is not write-through
+    ∷ spares 11 [] []
+    ∷ spares 11 (10 ∷ []) (policy policies ∷ [])
+    -- an empty way and a line that leads nowhere are passed over
+    ∷ spares 11 (10 ∷ []) (policy writeThrough ∷ memory 8 300 ∷ lined 15 0 0 1)
+    ∷ spares 11 (7 ∷ 10 ∷ []) (policy writeThrough ∷ memory 8 300 ∷ lined 1 8 leadsNowhere 5)
+    -- a page in memory that no line holds may have any value
+    ∷ spares 11 [] (policy writeThrough ∷ memory 8 300 ∷ memory 11 5 ∷ [])
+    ∷ []
+
 -- ---- the table, for a test of a state and a row
 
 unfoldable pub allDamaged : (State → Damage → Bool) → State → List Damage → Bool
@@ -236,7 +260,8 @@ unfoldable pub damaged : (State → Damage → Bool) → Bool
 damaged f =
     allDamaged f fresh freshCalls && allDamaged f fresh freshOwners && allDamaged f fresh freshAddresses && allDamaged f fresh freshMapped
     && allDamaged f fresh freshNumbers
-    && passes judge fresh inUse (λ s. allDamaged f s usedEntries && allDamaged f s usedLines && allDamaged f s usedSlots)
+    && passes judge fresh inUse (λ s. allDamaged f s usedEntries && allDamaged f s usedLines && allDamaged f s usedSlots
+    && allDamaged f s usedPolicies)
 
 -- the row's own rule is broken, or holds, as the row says
 unfoldable pub seen : State → Damage → Bool

@@ -5,7 +5,7 @@ use Prim.Native.Nat.{ℕ, zero, suc, _+_, _*_, _/_, _%_, _<_}
 use lib.ListN.{drop}
 use Rattle.laws.specs.Choice.{at}
 use Rattle.laws.specs.Cut.{part}
-use Rattle.model.specs.Sizes.{guests, physicals, pages, addresses, lines, sets, slots, calls, callABound, callBBound, marksBound, byteBound, valueBound, valueBytes, mapBytes}
+use Rattle.model.specs.Sizes.{guests, physicals, pages, addresses, lines, sets, slots, calls, callABound, callBBound, marksBound, policies, byteBound, valueBound, valueBytes, mapBytes}
 use Rattle.model.specs.Names.{ownerGuest, kindTable, running}
 use Rattle.model.specs.History.{histories}
 use Rattle.model.specs.State.{State}
@@ -33,6 +33,7 @@ fieldSizes =
     ∷ slots  -- 16 slotPage
     ∷ pages * valueBytes  -- 17 memory
     ∷ lines * valueBytes  -- 18 line
+    ∷ 1  -- 19 policy
     ∷ []
 
 -- in a valid state each byte of a field is below this
@@ -57,6 +58,7 @@ fieldBounds =
     ∷ suc pages  -- 16 slotPage
     ∷ byteBound  -- 17 memory
     ∷ byteBound  -- 18 line
+    ∷ policies  -- 19 policy
     ∷ []
 
 -- every number of the list is a byte; past its end there is 0
@@ -109,6 +111,7 @@ stateOf ps =
                 };
             cache = record { lineAddress = part ps 12; linePage = part ps 13; history = part ps 14 };
             tlb = record { slotAddress = part ps 15; slotPage = part ps 16 };
+            policy = at (part ps 19) 0;
           };
       values = record { memory = words pages (part ps 17); line = words lines (part ps 18) };
     }
@@ -122,4 +125,4 @@ stateFields s =
     let T = s .shape .tlb in
     P .owner ∷ P .kind ∷ P .cacheable ∷ P .entry ∷ P .physical ∷ longBytes (P .free) ∷ G .current ∷ G .call ∷ G .callA ∷ G .callB ∷ (G .active ∷ [])
     ∷ (G .mode ∷ []) ∷ C .lineAddress ∷ C .linePage ∷ C .history ∷ T .slotAddress ∷ T .slotPage ∷ wordsBytes (s .values .memory)
-    ∷ wordsBytes (s .values .line) ∷ []
+    ∷ wordsBytes (s .values .line) ∷ (s .shape .policy ∷ []) ∷ []

@@ -6,7 +6,7 @@ use lib.ListN.{replicate}
 use Rattle.laws.specs.Choice.{pick}
 use Rattle.laws.specs.Search.{listOf}
 use Rattle.model.specs.Sizes.{guests, physicals, pages, addresses, firstHostPage, firstFreePage, lines, sets, slots}
-use Rattle.model.specs.Names.{ownerNone, ownerHost, ownerGuest, kindNone, kindData, kindTable, running}
+use Rattle.model.specs.Names.{ownerNone, ownerHost, ownerGuest, kindNone, kindData, kindTable, running, writeBack}
 use Rattle.model.specs.State.{Pages, Guests, Cache, Tlb, State}
 use Rattle.model.specs.History.{start}
 
@@ -52,9 +52,13 @@ freshCache = record { lineAddress = replicate lines 0; linePage = replicate line
 abbrev pub emptyTlb : Tlb
 emptyTlb = record { slotAddress = replicate slots 0; slotPage = replicate slots 0 }
 
-unfoldable pub fresh : State
-fresh =
+-- The policy is the one that is asked for, and write-back unless one is.
+unfoldable pub freshWith : ℕ → State
+freshWith p =
     record {
-      shape = record { pages = freshPages; guests = freshGuests; cache = freshCache; tlb = emptyTlb };
+      shape = record { pages = freshPages; guests = freshGuests; cache = freshCache; tlb = emptyTlb; policy = p };
       values = record { memory = replicate pages 0; line = replicate lines 0 };
     }
+
+abbrev pub fresh : State
+fresh = freshWith writeBack

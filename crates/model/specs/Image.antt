@@ -2,14 +2,16 @@
 -- Assumes nothing.
 use mathlib.Core.Path.{_≡_}
 use mathlib.Core.Bool.{Bool, _&&_}
+use mathlib.Core.Logic.{_⊎_}
 use mathlib.Core.List.{List, [], _∷_, _++_}
 use Prim.Native.Nat.{ℕ, _+_, _*_, _/_, _%_, _<_}
 use lib.Dec.{eqb}
-use lib.ListN.{length, drop}
+use lib.ListN.{length, take, drop}
 use Rattle.laws.specs.Choice.{pick, at}
 use Rattle.laws.specs.Search.{allBelow}
 use Rattle.laws.specs.Cut.{cut, total, joined}
 use Rattle.model.specs.Sizes.{byteBound, markBytes, imageHeadBytes}
+use Rattle.model.specs.Names.{writeBack}
 use Rattle.model.specs.State.{State}
 use Rattle.model.specs.Fields.{fieldSizes, stateOf, stateFields}
 use Rattle.model.specs.Valid.{valid?}
@@ -20,16 +22,24 @@ use Rattle.model.specs.Valid.{valid?}
 abbrev pub mark : List ℕ
 mark = 82 ∷ 80 ∷ 83 ∷ []
 
+-- The first version had every field but the last, the policy.
+abbrev pub firstVersion : ℕ
+firstVersion = 1
+
+abbrev pub firstFields : ℕ
+firstFields = 19
+
 -- The bytes of an image, by its version: 0 where there is no such version.
 abbrev pub lengths : List ℕ
 lengths =
     0  -- 0
-    ∷ (imageHeadBytes + total fieldSizes)  -- 1
+    ∷ (imageHeadBytes + total (take firstFields fieldSizes))  -- 1
+    ∷ (imageHeadBytes + total fieldSizes)  -- 2
     ∷ []
 
 -- the version that is written, and its length
 abbrev pub versionWritten : ℕ
-versionWritten = 1
+versionWritten = 2
 
 abbrev pub imageBytes : ℕ
 imageBytes = at lengths versionWritten
@@ -42,22 +52,27 @@ versionIn i = at i markBytes + byteBound * at i (markBytes + 1)
 abbrev pub head : List ℕ
 head = mark ++ (versionWritten % byteBound ∷ versionWritten / byteBound ∷ [])
 
--- mark, version and length are those of an image: a test, and what it comes to while there is one version (`image⇔` in proofs/Image.antt)
+-- mark, version and length are those of an image: a test, and what it comes to (`image⇔` in proofs/Image.antt)
 unfoldable pub isImage : List ℕ → Bool
 isImage i = allBelow markBytes (λ k. eqb (at i k) (at mark k)) && eqb (length i) (at lengths (versionIn i))
 
 pub record Image (i : List ℕ) : Type 0 where
-  pub begins : (k : ℕ) → k < imageHeadBytes → at i k ≡ at head k
-  pub long : length i ≡ imageBytes
+  pub marked : (k : ℕ) → k < markBytes → at i k ≡ at mark k
+  pub version : (versionIn i ≡ firstVersion) ⊎ (versionIn i ≡ versionWritten)
+  pub long : length i ≡ at lengths (versionIn i)
 
 -- ---- a state and its image
 
 unfoldable pub imageOf : State → List ℕ
 imageOf s = head ++ joined (stateFields s)
 
+-- the bytes of an image's fields: one of the first version has no policy, and is write-back
+abbrev pub fieldsIn : List ℕ → List ℕ
+fieldsIn i = drop imageHeadBytes i ++ pick (eqb (versionIn i) firstVersion) (writeBack ∷ []) []
+
 -- the state that an image holds
 unfoldable pub held : List ℕ → State
-held i = stateOf (cut fieldSizes (drop imageHeadBytes i))
+held i = stateOf (cut fieldSizes (fieldsIn i))
 
 -- ---- open, load, save
 

@@ -32,3 +32,4 @@ pub mod Fields
 pub mod Image
 pub mod Pieces
 pub mod PieceSamples
+pub mod ThroughSamples

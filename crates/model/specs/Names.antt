@@ -1,4 +1,4 @@
--- docs/HOST.md, "Sizes and state": the numbers that stand for owners, kinds and modes.
+-- docs/HOST.md, "Sizes and state": the numbers that stand for owners, kinds, modes and write policies.
 -- Assumes nothing.
 use Prim.Native.Nat.{ℕ, _+_}
 
@@ -28,3 +28,10 @@ waiting = 0
 
 abbrev pub running : ℕ
 running = 1
+
+-- a write to a line does not write memory, or does
+abbrev pub writeBack : ℕ
+writeBack = 0
+
+abbrev pub writeThrough : ℕ
+writeThrough = 1

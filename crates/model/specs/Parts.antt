@@ -16,16 +16,20 @@ use Rattle.model.specs.Fresh.{emptyTlb}
 -- ---- one field anew
 
 abbrev pub withPages : Shape → Pages → Shape
-withPages h p = record { pages = p; guests = h .guests; cache = h .cache; tlb = h .tlb }
+withPages h p = record { pages = p; guests = h .guests; cache = h .cache; tlb = h .tlb; policy = h .policy }
 
 abbrev pub withGuests : Shape → Guests → Shape
-withGuests h g = record { pages = h .pages; guests = g; cache = h .cache; tlb = h .tlb }
+withGuests h g = record { pages = h .pages; guests = g; cache = h .cache; tlb = h .tlb; policy = h .policy }
 
 abbrev pub withCache : Shape → Cache → Shape
-withCache h c = record { pages = h .pages; guests = h .guests; cache = c; tlb = h .tlb }
+withCache h c = record { pages = h .pages; guests = h .guests; cache = c; tlb = h .tlb; policy = h .policy }
 
 abbrev pub withTlb : Shape → Tlb → Shape
-withTlb h t = record { pages = h .pages; guests = h .guests; cache = h .cache; tlb = t }
+withTlb h t = record { pages = h .pages; guests = h .guests; cache = h .cache; tlb = t; policy = h .policy }
+
+-- what no action does
+abbrev pub withPolicy : Shape → ℕ → Shape
+withPolicy h p = record { pages = h .pages; guests = h .guests; cache = h .cache; tlb = h .tlb; policy = p }
 
 -- a part of a step that touches no value
 abbrev pub shaped : State → Shape → State

@@ -1,4 +1,4 @@
--- docs/HOST.md, "Valid states": the ten rules as tests, each at every place of its list, in the order that docs/RULES.md states.
+-- docs/HOST.md, "Valid states": the eleven rules as tests, each at every place of its list, in the order that docs/RULES.md states.
 -- Assumes nothing.
 use mathlib.Core.Bool.{Bool, _&&_, _||_, not, Bool·beq}
 use mathlib.Core.List.{List, [], _∷_}
@@ -7,8 +7,8 @@ use lib.Dec.{ltb, leb, eqb}
 use Rattle.laws.specs.Choice.{pick, at, _⇒_}
 use Rattle.laws.specs.Search.{someBelow, allBelow, someIn, allIn}
 use Rattle.laws.specs.Bits.{marks}
-use Rattle.model.specs.Sizes.{guests, physicals, pages, addresses, firstHostPage, firstFreePage, ways, lines, sets, slots, stealth, stealthSet, reserved, setOf, slotOf, calls, callABound, callBBound, marksBound, valueBound}
-use Rattle.model.specs.Names.{ownerNone, ownerHost, ownerGuest, kindNone, kindData, kindTable, running}
+use Rattle.model.specs.Sizes.{guests, physicals, pages, addresses, firstHostPage, firstFreePage, ways, lines, sets, slots, stealth, stealthSet, reserved, setOf, slotOf, calls, callABound, callBBound, marksBound, policies, valueBound}
+use Rattle.model.specs.Names.{ownerNone, ownerHost, ownerGuest, kindNone, kindData, kindTable, running, writeThrough}
 use Rattle.model.specs.State.{State, lead, isPage, nowhere, stealthLine, lineAt, mapsPage}
 use Rattle.model.specs.History.{start, histories}
 use Rattle.model.specs.Records.{within, rowOf, kindOfCall}
@@ -137,6 +137,7 @@ columns s =
     ∷ column (T .slotPage) slots (suc pages)
     ∷ column (s .values .memory) pages valueBound
     ∷ column (s .values .line) lines valueBound
+    ∷ column (s .shape .policy ∷ []) 1 policies
     ∷ []
 
 abbrev pub inRange : Column → Bool
@@ -152,3 +153,8 @@ rule10? s =
     && allBelow guests (λ g. fits (at (G .call) g) (at (G .callA) g) (at (G .callB) g))
     && allBelow lines (λ i. eqb (at (C .linePage) i) 0 ⇒ eqb (at (C .lineAddress) i) 0 && eqb (at (s .values .line) i) 0)
     && allBelow slots (λ i. eqb (at (T .slotPage) i) 0 ⇒ eqb (at (T .slotAddress) i) 0)
+
+-- 11, at each line
+unfoldable pub rule11? : List ℕ → List ℕ → List ℕ → ℕ → Bool
+rule11? linePage memory line policy =
+    allBelow lines (λ i. eqb policy writeThrough && isPage (lead (at linePage i)) ⇒ eqb (at line i) (at memory (lead (at linePage i))))

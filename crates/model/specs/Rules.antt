@@ -1,4 +1,4 @@
--- docs/HOST.md, "Valid states": the ten rules, each over the lists that it reads.
+-- docs/HOST.md, "Valid states": the eleven rules, each over the lists that it reads.
 -- A place holds a page plus one: `≡ suc p` says that it is not empty and holds p. Where it must lead to a page, a number out of range breaks the rule.
 -- Assumes nothing.
 use mathlib.Core.Path.{_≡_}
@@ -8,8 +8,8 @@ use mathlib.Core.List.{List}
 use Prim.Native.Nat.{ℕ, suc, _+_, _*_, _/_, _^_, _≤_, _<_}
 use Rattle.laws.specs.Choice.{at}
 use Rattle.laws.specs.Bits.{bit}
-use Rattle.model.specs.Sizes.{guests, physicals, pages, addresses, firstHostPage, firstFreePage, ways, lines, sets, slots, stealth, stealthSet, reserved, setOf, slotOf, calls, callABound, callBBound, marksBound, valueBound}
-use Rattle.model.specs.Names.{ownerNone, ownerHost, ownerGuest, kindNone, kindData, kindTable, running}
+use Rattle.model.specs.Sizes.{guests, physicals, pages, addresses, firstHostPage, firstFreePage, ways, lines, sets, slots, stealth, stealthSet, reserved, setOf, slotOf, calls, callABound, callBBound, marksBound, policies, valueBound}
+use Rattle.model.specs.Names.{ownerNone, ownerHost, ownerGuest, kindNone, kindData, kindTable, running, writeThrough}
 use Rattle.model.specs.State.{Pages, Guests, Cache, Tlb, Values, State, stealthLine, lineAt}
 use Rattle.model.specs.History.{start, histories}
 use Rattle.model.specs.Records.{Row, rowOf, kindOfCall}
@@ -170,3 +170,8 @@ pub record Rule10 (s : State) : Type 0 where
   pub cache : CacheIn (s .shape .cache) (s .values .line)
   pub tlb : TlbIn (s .shape .tlb)
   pub values : ValuesIn (s .values)
+  pub policy : s .shape .policy < policies
+
+-- 11. Under write-through the value of each line is the value that its page has in memory.
+pub record Rule11 (linePage memory line : List ℕ) (policy : ℕ) : Type 0 where
+  pub same : policy ≡ writeThrough → (i p : ℕ) → i < lines → p < pages → at linePage i ≡ suc p → at line i ≡ at memory p

@@ -47,9 +47,9 @@ unfoldable pub allPass : (State → List ℕ → Outcome) → State → List Sam
 allPass f s [] = true
 allPass f s (x ∷ xs) = elim (passes f s (x .records) (x .end)) [ true ↦ allPass f s xs | false ↦ false ]
 
-unfoldable pub groupsPass : (State → List ℕ → Outcome) → List Group → Bool
-groupsPass f [] = true
-groupsPass f (g ∷ gs) = elim (passes f fresh (g .start) (λ s. allPass f s (g .rows))) [ true ↦ groupsPass f gs | false ↦ false ]
+unfoldable pub groupsPass : (State → List ℕ → Outcome) → State → List Group → Bool
+groupsPass f s [] = true
+groupsPass f s (g ∷ gs) = elim (passes f s (g .start) (λ t. allPass f t (g .rows))) [ true ↦ groupsPass f s gs | false ↦ false ]
 
 -- ---- words to write samples with
 
@@ -416,4 +416,4 @@ journalsPass =
 -- ---- the table passes, for a step that answers records
 
 unfoldable pub allSamples : (State → List ℕ → Outcome) → Bool
-allSamples f = groupsPass f samples && ninePlayed f && journalsPass
+allSamples f = groupsPass f fresh samples && ninePlayed f && journalsPass

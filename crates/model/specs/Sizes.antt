@@ -57,6 +57,10 @@ marksBound = 2
 abbrev pub pinKinds : ℕ
 pinKinds = 2
 
+-- a write policy is one of these
+abbrev pub policies : ℕ
+policies = 2
+
 -- a value has 32 bits, a byte 8
 abbrev pub valueBound : ℕ
 valueBound = 2 ^ 32

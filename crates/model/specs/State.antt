@@ -7,7 +7,7 @@ use lib.Dec.{ltb, eqb}
 use Rattle.laws.specs.Choice.{pick, at}
 use Rattle.laws.specs.Search.{firstBelow, someIn}
 use Rattle.model.specs.Sizes.{physicals, pages, addresses, ways, lines, setOf, stealthSet}
-use Rattle.model.specs.Names.{kindTable}
+use Rattle.model.specs.Names.{kindTable, writeThrough}
 
 -- ---- the state
 
@@ -44,6 +44,7 @@ pub record Shape : Type 0 where
   pub guests : Guests
   pub cache : Cache
   pub tlb : Tlb
+  pub policy : ℕ  -- of writes
 
 -- the values of the pages in memory, and of the cache's lines
 pub record Values : Type 0 where
@@ -78,6 +79,9 @@ isCacheable h p = eqb (at (h .pages .cacheable) p) 1
 
 abbrev pub active : Shape → ℕ
 active h = h .guests .active
+
+abbrev pub isThrough : Shape → Bool
+isThrough h = eqb (h .policy) writeThrough
 
 -- the page to which table m leads from va
 abbrev pub pageFrom : Shape → ℕ → ℕ → ℕ

@@ -1,4 +1,4 @@
--- docs/HOST.md, "Valid states": a state is valid if its lists have their sizes and the ten rules hold.
+-- docs/HOST.md, "Valid states": a state is valid if its lists have their sizes and the eleven rules hold.
 -- Assumes nothing.
 use mathlib.Core.Path.{_≡_}
 use mathlib.Core.Bool.{Bool, _&&_}
@@ -8,8 +8,8 @@ use lib.ListN.{length}
 use Rattle.laws.specs.Search.{allIn}
 use Rattle.model.specs.Sizes.{guests, physicals, pages, addresses, lines, sets, slots}
 use Rattle.model.specs.State.{State, table}
-use Rattle.model.specs.Rules.{Rule1, Rule2, Rule3, Rule4, Rule5, Rule6, Rule7, Rule8, Rule9, Rule10}
-use Rattle.model.specs.RuleTests.{columns, rule1?, rule2?, rule3?, rule4?, rule5?, rule6?, rule7?, rule8?, rule9?, rule10?}
+use Rattle.model.specs.Rules.{Rule1, Rule2, Rule3, Rule4, Rule5, Rule6, Rule7, Rule8, Rule9, Rule10, Rule11}
+use Rattle.model.specs.RuleTests.{columns, rule1?, rule2?, rule3?, rule4?, rule5?, rule6?, rule7?, rule8?, rule9?, rule10?, rule11?}
 
 -- the sizes of the state's lists: what its bytes always have
 pub record Sized (s : State) : Type 0 where
@@ -42,6 +42,7 @@ pub record Valid (s : State) : Type 0 where
   pub rule8 : Rule8 (s .shape .pages .entry) (s .shape .tlb .slotAddress) (s .shape .tlb .slotPage) (table (s .shape))
   pub rule9 : Rule9 (s .shape .pages .entry) (s .shape .cache .lineAddress) (s .shape .cache .linePage) (s .shape .cache .history) (table (s .shape))
   pub rule10 : Rule10 s
+  pub rule11 : Rule11 (s .shape .cache .linePage) (s .values .memory) (s .values .line) (s .shape .policy)
 
 -- ---- the same as a test: `valid⇔` in proofs/Valid.antt says that it passes exactly if the state is valid
 
@@ -64,3 +65,4 @@ valid? s =
     && rule8? (P .entry) (T .slotAddress) (T .slotPage) (table (s .shape))
     && rule9? (P .entry) (C .lineAddress) (C .linePage) (C .history) (table (s .shape))
     && rule10? s
+    && rule11? (C .linePage) (s .values .memory) (s .values .line) (s .shape .policy)

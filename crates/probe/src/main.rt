@@ -1,6 +1,7 @@
 // Test aid: does tasks from standard input by the proved code, and writes what came of each. docs/ARCHITECTURE.md, "The differential run", has the framing.
 use host::Host;
 use host::SIZE;
+use host::WritePolicy;
 use journal::Verdict;
 use pieces::Fed;
 use pieces::KEPT;
@@ -11,7 +12,8 @@ const IN: i32 = 0;
 
 const OUT: i32 = 1;
 
-// A task's first bytes: its kind, whether the input ends or a zero, how many bytes its journal, record, image or piece has, how many its buffer has.
+// A task's first bytes: its kind; the policy of a fresh machine, whether the input ends, or a zero; how many bytes its journal, record, image or piece
+// has; how many its buffer has.
 const HEAD: usize = 6;
 
 const FRESH: u8 = 0;
@@ -30,8 +32,10 @@ const FEED: u8 = 6;
 
 const BEGIN: u8 = 7;
 
-// The second byte of a task: the input ends with its piece.
+// The second byte of a task: the input ends with its piece; the machine is started with write-through.
 const LAST: u8 = 1;
+
+const THROUGH: u8 = 1;
 
 // Stands for the largest allowance that there is.
 const NO_LIMIT: usize = 65535;
@@ -141,7 +145,7 @@ fn bit(b: bool) -> u8 {
     if b { 1 } else { 0 }
 }
 
-// The ten rules, then validity.
+// The eleven rules, then validity.
 fn send_rules(h: &Host) {
     let first = [
         bit(rules::rule1(h)),
@@ -157,6 +161,7 @@ fn send_rules(h: &Host) {
         bit(rules::rule8(h)),
         bit(rules::rule9(h)),
         bit(rules::rule10(h)),
+        bit(rules::rule11(h)),
         bit(rules::valid(h)),
     ];
     io::write_all(OUT, &rest);
@@ -183,13 +188,21 @@ fn step_buffer(h: &mut Host, record: &Buffer, length: isize) -> Answer {
     step_part(h, record, length)
 }
 
-// A machine unless it is the fresh one, a journal, an answer buffer with what it holds; then verdict, buffer and machine.
-fn run_journal(is_fresh: bool, length: isize, room: isize) {
+fn fresh(h: &mut Host, is_through: bool) {
+    if is_through {
+        host::fresh_with(h, WritePolicy::Through);
+    } else {
+        host::fresh(h);
+    }
+}
+
+// A machine unless it is a fresh one, a journal, an answer buffer with what it holds; then verdict, buffer and machine.
+fn run_journal(is_fresh: bool, is_through: bool, length: isize, room: isize) {
     let mut h: Host = [0; SIZE];
     let mut j: Buffer = [0; MOST];
     let mut out: Buffer = [0; MOST];
     if is_fresh {
-        host::fresh(&mut h);
+        fresh(&mut h, is_through);
     } else {
         receive_host(&mut h);
     }
@@ -336,8 +349,8 @@ fn task() -> bool {
     let room = number(head[4], head[5]);
     let kind = head[0];
     match kind {
-        FRESH => run_journal(true, length, room),
-        GIVEN => run_journal(false, length, room),
+        FRESH => run_journal(true, head[1] == THROUGH, length, room),
+        GIVEN => run_journal(false, false, length, room),
         JUDGE => judge(length),
         OPEN => read_image(false, length),
         LOAD => read_image(true, length),

@@ -7,7 +7,11 @@ use Prim.Native.Nat.{ℕ}
 use Rattle.model.specs.State.{State}
 use Rattle.host.specs.View.{view, Whole}
 use Rattle.host.proofs.Inverse.{view-inj}
-use Rattle.ration.specs.Promises.{StepsBytes, RunsBytes, SavesBytes, LoadsBytes, FeedsBytes}
+use Rattle.ration.specs.Promises.{StartsBytes, StepsBytes, RunsBytes, SavesBytes, LoadsBytes, FeedsBytes}
+
+pub one-start : (s : State) (p : ℕ) {n m : ℕ} {x y : List ℕ} → Whole x → Whole y → StartsBytes s p n (view x) → StartsBytes s p m (view y)
+    → (n ≡ m) × (x ≡ y)
+one-start s p {x = x} {y = y} h k a b = (a .number ∙ sym (b .number), view-inj x y h k (a .state ∙ sym (b .state)))
 
 pub one-step : (s : State) (l : List ℕ) {x y c d : List ℕ} → Whole x → Whole y → StepsBytes s l (view x) c → StepsBytes s l (view y) d
     → (x ≡ y) × (c ≡ d)

@@ -4,7 +4,11 @@ use mathlib.Core.Path.{_≡_}
 use mathlib.Core.Bool.{Bool}
 use mathlib.Core.List.{List, _++_}
 use Prim.Native.Nat.{ℕ, _*_}
+use lib.Dec.{ltb}
+use Rattle.laws.specs.Choice.{pick}
+use Rattle.model.specs.Sizes.{policies}
 use Rattle.model.specs.State.{State}
+use Rattle.model.specs.Fresh.{freshWith}
 use Rattle.model.specs.Records.{wordBytes}
 use Rattle.model.specs.Step.{step}
 use Rattle.model.specs.Image.{imageNumber, loaded, saved}
@@ -24,6 +28,11 @@ countsBytes r = wordBytes (r .taken) ++ wordBytes (r .accepted) ++ wordBytes (r 
 -- A refused journal's report is all zero but for its number.
 abbrev pub reportBytesOf : Verdict → List ℕ
 reportBytesOf v = wordBytes (verdictNumber v) ++ countsBytes (reportOf v)
+
+-- the fresh machine with the policy p in place of state s: the number n, 1 where p is no policy, and state t, which is then s
+pub record StartsBytes (s : State) (p n : ℕ) (t : State) : Type 0 where
+  pub number : n ≡ pick (ltb p policies) 0 1
+  pub state : t ≡ pick (ltb p policies) (freshWith p) s
 
 -- the record l on state s: state t and answer bytes c
 pub record StepsBytes (s : State) (l : List ℕ) (t : State) (c : List ℕ) : Type 0 where

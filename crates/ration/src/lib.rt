@@ -3,6 +3,7 @@
 mod report; // report.rt: the bytes of a report
 
 use host::Host;
+use host::WritePolicy;
 use pieces::Kept;
 use report::REPORT;
 use report::put_report;
@@ -15,7 +16,12 @@ ghost use Rattle.model.specs.Valid.{valid?};
 ghost use Rattle.model.specs.Image.{imageBytes};
 ghost use Rattle.model.specs.Pieces.{beginning};
 ghost use Rattle.host.specs.View.{bytes as stateBytes, view};
-ghost use Rattle.ration.specs.Promises.{reportSize, StepsBytes, RunsBytes, LoadsBytes, SavesBytes, FeedsBytes};
+ghost use Rattle.ration.specs.Promises.{reportSize, StartsBytes, StepsBytes, RunsBytes, LoadsBytes, SavesBytes, FeedsBytes};
+
+// What starting with a policy answers: done, or the number of a state that is not valid.
+const DONE: u8 = 0;
+
+const NOT_VALID: u8 = 1;
 
 // The bytes of a state.
 #[no_mangle]
@@ -65,7 +71,31 @@ pub extern "C" fn ration_fresh(h: &mut Host)
     host::fresh(h);
 }
 
-// Whether the state is valid, by the ten rules.
+// The fresh machine with a policy, whatever the bytes were: 0, or 1 for a byte that is no policy.
+#[no_mangle]
+pub extern "C" fn ration_fresh_with(h: &mut Host, policy: u8) -> u8
+    ensures { λ n. ⌜ StartsBytes (view (now (h .entry))) policy n (view (now (h .exit))) ⌝ }
+{
+    if policy == host::WRITE_BACK {
+        host::fresh_with(h, WritePolicy::Back);
+        return DONE;
+    }
+    if policy == host::WRITE_THROUGH {
+        host::fresh_with(h, WritePolicy::Through);
+        return DONE;
+    }
+    NOT_VALID
+}
+
+// The policy of the state.
+#[no_mangle]
+pub extern "C" fn ration_policy(h: &Host) -> u8
+    ensures { λ r. ⌜ r ≡ view (now (h .entry)) .shape .policy ⌝ }
+{
+    host::policy(h)
+}
+
+// Whether the state is valid, by the eleven rules.
 #[no_mangle]
 pub extern "C" fn ration_valid(h: &Host) -> bool
     ensures { λ r. ⌜ r ≡ valid? (view (now (h .entry))) ⌝ }

@@ -1,5 +1,6 @@
-// The program's files: standard input, the image that it starts from, and the one that it saves. ./rpj names the images by two words, of which an empty
-// one stands for no image, and says by a third that the input is run as it arrives.
+// The program's words and files: standard input, the image that it starts from, and the one that it saves. ./rpj names the images by two words, of which
+// an empty one stands for no image, and says by a third that the input is run as it arrives, by a fourth that the host is to be write-through. Either
+// may be empty, and is then not said.
 use host::Host;
 ghost use mathlib.Core.Path.{_≡_};
 ghost use Prim.Native.Nat.{min};
@@ -12,6 +13,8 @@ const TO: usize = 2;
 
 const STREAM: usize = 3;
 
+const THROUGH: usize = 4;
+
 // One byte more than an image has: a longer one is refused alike.
 pub(crate) const IMAGE: usize = image::SIZE + 1;
 
@@ -23,9 +26,17 @@ pub(crate) const ABSENT: usize = usize::MAX - 1;
 // A name, and .new behind it.
 const BESIDE: usize = libc::PATH_MAX + 4;
 
+fn is_said(word: usize) -> bool {
+    let mut said = io::buffer();
+    os::arg(word, &mut said) > 0
+}
+
 pub(crate) fn is_streamed() -> bool {
-    let mut word = io::buffer();
-    os::arg(STREAM, &mut word) > 0
+    is_said(STREAM)
+}
+
+pub(crate) fn is_through() -> bool {
+    is_said(THROUGH)
 }
 
 // ---- reading

@@ -1,7 +1,7 @@
-// The program: a journal from standard input, on the fresh machine or on the state of an image, its output to standard output, and the state after it
-// to another image. No contract says what is read or written, so this file, files.rt and stream.rt are to be read: they hand what they read to
-// `output::load`, and to `output::run` or `output::feed`, and write the text and say the status that these answer. A Rattle program has no exit status; it says that of
-// docs/HOST.md, "Journal and program", on a descriptor of its own, which ./rpj reads.
+// The program: a journal from standard input, on the fresh machine of either policy or on the state of an image, its output to standard output, and the
+// state after it to another image. No contract says what is read or written, so this file, files.rt and stream.rt are to be read: they hand what they read
+// to `output::load`, and to `output::run` or `output::feed`, and write the text and say the status that these answer. A Rattle program has no exit status;
+// it says that of docs/HOST.md, "Journal and program", on a descriptor of its own, which ./rpj reads.
 mod files; // files.rt: the words of ./rpj, the images that it names, and reading
 mod stream; // stream.rt: a journal that is run as it arrives
 
@@ -10,10 +10,12 @@ use files::FAILED;
 use files::IMAGE;
 use files::at_most;
 use files::is_streamed;
+use files::is_through;
 use files::read_all;
 use files::read_image;
 use files::save_image;
 use host::Host;
+use host::WritePolicy;
 use libc::STDERR_FILENO;
 use libc::STDIN_FILENO;
 use libc::STDOUT_FILENO;
@@ -67,12 +69,32 @@ fn run(h: &mut Host, input: &[u8], got: usize) -> u8 {
     put(&out[..p.bytes], p.status)
 }
 
+fn policy_asked() -> WritePolicy {
+    if is_through() {
+        WritePolicy::Through
+    } else {
+        WritePolicy::Back
+    }
+}
+
+// The image has its own policy, and is judged before that.
+fn load_as_asked(h: &mut Host, image: &[u8], from: usize) -> u8 {
+    let loaded = load(h, image, from);
+    if loaded != RAN {
+        return loaded;
+    }
+    if is_through() && host::policy(h) != host::WRITE_THROUGH {
+        return fail(b"rpj: wrong use: --write-through, and the image is write-back\n");
+    }
+    RAN
+}
+
 fn start(h: &mut Host, image: &[u8], from: usize) -> u8 {
     if from == ABSENT {
-        host::fresh(h);
+        host::fresh_with(h, policy_asked());
         return RAN;
     }
-    load(h, image, from)
+    load_as_asked(h, image, from)
 }
 
 fn save(h: &Host) -> u8 {

@@ -10,7 +10,7 @@ use Rattle.laws.specs.Search.{allBelow}
 use Rattle.laws.proofs.Tests.{eq⇔, lt⇔, and⇔, imp⇔, as⇔, agree}
 use Rattle.laws.proofs.Search.{all⇔}
 use Rattle.laws.proofs.Grid.{place-of}
-use Rattle.model.specs.Sizes.{guests, physicals, pages, addresses, lines, sets, slots, calls, callABound, callBBound, marksBound}
+use Rattle.model.specs.Sizes.{guests, physicals, pages, addresses, lines, sets, slots, calls, callABound, callBBound, marksBound, policies}
 use Rattle.model.specs.Names.{ownerGuest, kindTable, running}
 use Rattle.model.specs.State.{State}
 use Rattle.model.specs.History.{histories}
@@ -65,14 +65,14 @@ module _ (s : State) where
       and⇔ (and⇔ (lt⇔ (at (T .slotAddress) i) addresses) (lt⇔ (at (T .slotPage) i) (suc pages))) (imp⇔ (eq⇔ (at (T .slotPage) i) 0) (eq⇔ (at (T .slotAddress) i) 0))
 
   pub rule10-is : Sized s → Bounded s
-      → (ltb (s .shape .guests .active) guests && ltb (s .shape .guests .mode) (suc running)
+      → (ltb (s .shape .guests .active) guests && ltb (s .shape .guests .mode) (suc running) && ltb (s .shape .policy) policies
       && (allBelow pages (pageInRange s) && allBelow (guests * physicals) (placeInRange s) && allBelow guests (guestInRange s) && allBelow lines (lineInRange s) && allBelow sets (setInRange s) && allBelow slots (slotInRange s))
       && allBelow (pages * addresses) (λ i. entryInRange s (i / addresses) (i % addresses)))
       ≡ rule10? s
   rule10-is z b =
       agree
       (as⇔
-      (and⇔ (and⇔ (and⇔ (lt⇔ (s .shape .guests .active) guests) (lt⇔ (s .shape .guests .mode) (suc running)))
+      (and⇔ (and⇔ (and⇔ (and⇔ (lt⇔ (s .shape .guests .active) guests) (lt⇔ (s .shape .guests .mode) (suc running))) (lt⇔ (s .shape .policy) policies))
       (and⇔ (and⇔ (and⇔ (and⇔ (and⇔ (all⇔ pages page⇔) (all⇔ (guests * physicals) place⇔)) (all⇔ guests guest⇔)) (all⇔ lines line⇔)) (all⇔ sets set⇔)) (all⇔ slots slot⇔)))
       (all⇔ (pages * addresses) entry⇔))
       (λ w.
@@ -90,12 +90,13 @@ module _ (s : State) where
               callA = λ i h. g i h .0 .0 .1;
               callB = λ i h. g i h .0 .1;
               arguments = λ i h. g i h .1;
-              active = w .0 .0 .0;
-              mode = w .0 .0 .1;
+              active = w .0 .0 .0 .0;
+              mode = w .0 .0 .0 .1;
             };
         cache = record { lineAddress = λ i h. l i h .0 .0; linePage = λ i h. l i h .0 .1; history = q .0 .1; empty = λ i h. l i h .1 };
         tlb = record { slotAddress = λ i h. t i h .0 .0; slotPage = λ i h. t i h .0 .1; empty = λ i h. t i h .1 };
         values = record { memory = λ i h. b .memory i; line = λ i h. b .line i };
+        policy = w .0 .0 .1;
       })
       (λ w.
       let P = w .pages in
@@ -103,7 +104,7 @@ module _ (s : State) where
       let C = w .cache in
       let T = w .tlb in (
         (
-          (G .active, G .mode),
+          ((G .active, G .mode), w .policy),
           (
             (
               (

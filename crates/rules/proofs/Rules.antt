@@ -1,6 +1,6 @@
 -- Each rule of the model is its test at each place.
 -- Assumes nothing.
-use mathlib.Core.Path.{_≡_, sym, ap, _∙_}
+use mathlib.Core.Path.{_≡_, refl, sym, ap, _∙_}
 use mathlib.Core.Bool.{Bool, true, _&&_, not}
 use Prim.Native.Nat.{ℕ, suc, _+_, _*_, _/_, _%_, _<_}
 use native.Mathlib.Omega.{arith}
@@ -14,11 +14,11 @@ use Rattle.model.specs.Sizes.{guests, physicals, pages, addresses, lines, ways,
 use Rattle.model.specs.Names.{ownerGuest, kindData}
 use Rattle.model.specs.State.{State, isPage, table, mapsPage}
 use Rattle.model.specs.Valid.{Sized}
-use Rattle.model.specs.RuleTests.{leadsTo, rule3?, rule4?, rule7?, rule8?}
+use Rattle.model.specs.RuleTests.{leadsTo, rule3?, rule4?, rule7?, rule8?, rule11?}
 use Rattle.numbers.specs.Lead.{leadOf, leadsAt}
 use Rattle.numbers.proofs.Leads.{leads-at}
 use Rattle.places.specs.Places.{heldBy, heldOnce, registeredAt}
-use Rattle.lines.specs.Lines.{linedBy, lined, slotBy, slotted}
+use Rattle.lines.specs.Lines.{linedBy, lined, slotBy, slotted, through}
 use Rattle.entries.specs.Entries.{ownBy, ownAt}
 use Rattle.seek.proofs.Leading.{leads-same}
 
@@ -88,3 +88,10 @@ slot-is s m i a p h = ap (λ (b : Bool). ltb a addresses && eqb (slotOf a) i && 
 pub rule8-is : (s : State) → allBelow slots (slotted s) ≡ rule8? (s .shape .pages .entry) (s .shape .tlb .slotAddress) (s .shape .tlb .slotPage) (table (s .shape))
 unfolding rule8? slotted
 rule8-is s = all-same slots (λ i l. leads-same (at (s .shape .tlb .slotPage) i) (slot-is s (table (s .shape)) i (at (s .shape .tlb .slotAddress) i)))
+
+-- ---- 11
+
+pub rule11-is : (s : State)
+    → allBelow lines (through s) ≡ rule11? (s .shape .cache .linePage) (s .values .memory) (s .values .line) (s .shape .policy)
+unfolding rule11? through
+rule11-is s = refl

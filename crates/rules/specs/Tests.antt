@@ -4,10 +4,10 @@ use mathlib.Core.Bool.{Bool}
 use Prim.Native.Nat.{ℕ}
 use Rattle.model.specs.State.{State}
 use Rattle.rules.specs.declared.Test.{Test}
-use Rattle.rules.specs.declared.Test.the-variants.{Held, Registered, CurrentTable, StealthCacheable, Line, Call, Page, Slot, PageRange, PlaceRange, GuestRange, LineRange, SetRange, SlotRange}
+use Rattle.rules.specs.declared.Test.the-variants.{Held, Registered, CurrentTable, StealthCacheable, Line, Call, Page, Slot, PageRange, PlaceRange, GuestRange, LineRange, SetRange, SlotRange, Through}
 use Rattle.rules.specs.declared.EntryTest.{EntryTest}
 use Rattle.rules.specs.declared.EntryTest.the-variants.{Own, Range}
-use Rattle.lines.specs.Lines.{lined, slotted}
+use Rattle.lines.specs.Lines.{lined, slotted, through}
 use Rattle.places.specs.Places.{heldOnce, registeredAt, currentTable, stealthCacheable, callKept, pageKept}
 use Rattle.ranges.specs.Ranges.{pageInRange, placeInRange, guestInRange, lineInRange, setInRange, slotInRange, entryInRange}
 use Rattle.entries.specs.Entries.{ownAt}
@@ -27,6 +27,7 @@ test GuestRange s i = guestInRange s i
 test LineRange s i = lineInRange s i
 test SetRange s i = setInRange s i
 test SlotRange s i = slotInRange s i
+test Through s i = through s i
 
 -- ---- entries
 

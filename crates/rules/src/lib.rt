@@ -7,6 +7,7 @@ use host::Ma;
 use host::Va;
 use lines::line;
 use lines::slot;
+use lines::through;
 use places::call_kept;
 use places::current_table;
 use places::held;
@@ -25,7 +26,7 @@ ghost use Prim.Native.Nat.{_+_, _*_, _/_, _%_, _<_};
 ghost use Rattle.laws.specs.Search.{allBelow};
 ghost use Rattle.model.specs.Sizes.{pages, addresses};
 ghost use Rattle.model.specs.State.{table};
-ghost use Rattle.model.specs.RuleTests.{rule1?, rule2?, rule8?, rule9?, rule10?, rule3?, rule4?, rule5?, rule6?, rule7?};
+ghost use Rattle.model.specs.RuleTests.{rule1?, rule2?, rule8?, rule9?, rule10?, rule11?, rule3?, rule4?, rule5?, rule6?, rule7?};
 ghost use Rattle.model.specs.Valid.{valid?};
 ghost use Rattle.host.specs.View.{view};
 ghost use Rattle.rules.specs.Tests.{test, entryTest};
@@ -57,6 +58,7 @@ enum Test {
     LineRange,
     SetRange,
     SlotRange,
+    Through,
 }
 
 enum EntryTest {
@@ -82,6 +84,7 @@ fn passes(h: &Host, t: Test, i: u8) -> bool
         Test::LineRange => line_in_range(h, i),
         Test::SetRange => set_in_range(h, i),
         Test::SlotRange => slot_in_range(h, i),
+        Test::Through => through(h, i),
     }
 }
 
@@ -185,7 +188,9 @@ pub fn rule10(h: &Host) -> bool
 {
     host::whole(h);
     let a = host::active(h);
-    let singles = (a.0 < GUESTS) & (host::mode(h) < host::RUNNING + 1);
+    let singles = (a.0 < GUESTS)
+        & (host::mode(h) < host::RUNNING + 1)
+        & (host::policy(h) < host::POLICIES);
     let shapes = all(h, Test::PageRange, PAGES)
         & all(h, Test::PlaceRange, GUESTS * PHYSICALS)
         & all(h, Test::GuestRange, GUESTS)
@@ -193,6 +198,12 @@ pub fn rule10(h: &Host) -> bool
         & all(h, Test::SetRange, SETS)
         & all(h, Test::SlotRange, SLOTS);
     singles & shapes & all_entries(h, EntryTest::Range)
+}
+
+pub fn rule11(h: &Host) -> bool
+    ensures { λ r. ⌜ r ≡ rule11? (view (now (h .entry)) .shape .cache .linePage) (view (now (h .entry)) .values .memory) (view (now (h .entry)) .values .line) (view (now (h .entry)) .shape .policy) ⌝ }
+{
+    all(h, Test::Through, LINES)
 }
 
 // Without an exit in between: a valid state, which is what is judged, passes them all.
@@ -210,4 +221,5 @@ pub fn valid(h: &Host) -> bool
         & rule8(h)
         & rule9(h)
         & rule10(h)
+        & rule11(h)
 }

@@ -3,7 +3,7 @@
 
 use second::journal::MOST_RECORDS;
 use second::rng::Rng;
-use second::{fresh, run_journal, Kept, State, HEADER, KEPT};
+use second::{fresh_with, run_journal, Kept, Policy, State, HEADER, KEPT};
 
 use crate::feeds::{Feed, Given, ALL};
 use crate::journals::journal;
@@ -242,10 +242,11 @@ fn chain(ask: &mut Ask, tally: &mut PieceTally, plan: Plan) -> Result<Chain, Str
     Ok(Chain { parts: std::array::from_fn(pair) })
 }
 
-/// The fresh machine or one of a run.
+/// The fresh machine of either policy, or one of a run.
 fn machine(along: &[State], seed: usize) -> Vec<u8> {
-    match seed % 2 {
-        0 => fresh().to_bytes(),
+    match seed % 4 {
+        0 => fresh_with(Policy::WriteBack).to_bytes(),
+        2 => fresh_with(Policy::WriteThrough).to_bytes(),
         _ => along[seed % along.len()].to_bytes(),
     }
 }
@@ -304,7 +305,8 @@ fn refused(along: &[State], seed: usize) -> Plan {
 fn long() -> Plan {
     let journal = [journal("deep", 0), journal("crowd", 0)[8..].to_vec()].concat();
     let (name, offer) = ("a long journal".into(), Offer::Any(1, 9000));
-    Plan { name, machine: fresh().to_bytes(), journal, offer, refused: Vec::new() }
+    let machine = fresh_with(Policy::WriteThrough).to_bytes();
+    Plan { name, machine, journal, offer, refused: Vec::new() }
 }
 
 /// How many there were; each of them is one run.

@@ -5,11 +5,11 @@ use second::hex::to_hex;
 use second::STATE_BYTES;
 
 use crate::feeds::{Feed, Given};
-use crate::hosts::{Files, Left};
+use crate::hosts::{Files, Left, TOLD};
 use crate::task::{Task, ANSWER, NUMBER, RULES, VERDICT};
 
 /// The fields of docs/STATE.md, in order.
-pub const FIELDS: [&str; 19] = [
+pub const FIELDS: [&str; 20] = [
     "owner",
     "kind",
     "cacheable",
@@ -29,6 +29,7 @@ pub const FIELDS: [&str; 19] = [
     "slotPage",
     "memory",
     "line",
+    "policy",
 ];
 
 /// The number of the field that has this byte of a state.
@@ -111,7 +112,7 @@ fn of_judgements(ours: &[u8], second: &[u8]) -> String {
     let head = RULES + ANSWER;
     if ours[..RULES] != second[..RULES] {
         return both(
-            "rules 1 to 10 and validity",
+            "rules 1 to 11 and validity",
             to_hex(&ours[..RULES]),
             to_hex(&second[..RULES]),
         );
@@ -165,9 +166,13 @@ fn of_states(ours: &[u8], second: &[u8]) -> String {
     let Some(at) = (0..STATE_BYTES).find(|i| ours[*i] != second[*i]) else {
         return "none".into();
     };
+    both(&place(at), ours[at], second[at])
+}
+
+/// A byte of a state, in words.
+pub fn place(at: usize) -> String {
     let field = field(at);
-    let what = format!("state, byte {at}: {} at {}", FIELDS[field], at - OFFSETS[field]);
-    both(&what, ours[at], second[at])
+    format!("state, byte {at}: {} at {}", FIELDS[field], at - OFFSETS[field])
 }
 
 /// The first line that is not the same, counted from 1; None where all are.
@@ -184,16 +189,22 @@ pub fn of_texts(ours: &[u8], second: &[u8]) -> Option<String> {
     Some(both(&format!("line {}", same + 1), shown(&ours), shown(&second)))
 }
 
-/// The text first, then the status, then the files.
+/// The text first, then the status, then whether there was a message, then the files.
 pub fn of_left(ours: &Left, second: &Left) -> Option<String> {
     if ours == second {
         return None;
     }
     let status = |left: &Left| String::from_utf8_lossy(&left.status).into_owned();
+    let told = |left: &Left| left.message == TOLD;
     let text = of_texts(&ours.text, &second.text);
-    Some(text.unwrap_or_else(|| match ours.status == second.status {
-        true => of_files(&ours.files, &second.files),
-        false => both("status", status(ours), status(second)),
+    Some(text.unwrap_or_else(|| {
+        if ours.status != second.status {
+            both("status", status(ours), status(second))
+        } else if ours.message != second.message {
+            both("a message", told(ours), told(second))
+        } else {
+            of_files(&ours.files, &second.files)
+        }
     }))
 }
 

@@ -2,8 +2,10 @@
 //! meet no write-back compare little.
 
 use second::gen::calls::{self, Calls};
-use second::state::Owner;
-use second::{decode, fresh, step, Action, GuestId, Mach, State, Virt, HEADER, STEALTH};
+use second::state::{Line, Owner};
+use second::step::judge;
+use second::{decode, fresh, fresh_with, step, Action, GuestId, Mach, Policy, State, Virt};
+use second::{HEADER, STEALTH};
 
 use crate::journals::Journal;
 
@@ -27,6 +29,26 @@ const NAMES: [&str; 17] = [
     "page with a value given back",
 ];
 
+/// The same journals under write-through, where no line is dirty.
+const THROUGH: [&str; 16] = [
+    "write-through: write hit",
+    "write-through: write miss, a way empty",
+    "write-through: write miss, a line taken out",
+    "write-through: write hit that changes memory",
+    "write-through: write miss that changes memory",
+    "write-through: write to the stealth page",
+    "write-through: write to a page not cacheable",
+    "write-through: write_hyper to a line",
+    "write-through: write_hyper to a page not cacheable",
+    "write-through: read miss, a line taken out",
+    "write-through: page shared, a line of it taken out",
+    "write-through: line taken out by del",
+    "write-through: page with a value given back by unpin",
+    "write-through: stealth line saved by switch or lswitch",
+    "write-through: stealth line loaded by switch or lswitch, value not 0",
+    "write-through: stealth line loaded by new_sm, value not 0",
+];
+
 /// What else there was at the address of a del that the table in force does not map.
 const UNMAPPED: [&str; 4] = [
     "del refused with 6, another table of the guest maps the address",
@@ -38,6 +60,7 @@ const UNMAPPED: [&str; 4] = [
 #[derive(Default)]
 pub struct Events {
     steps: [usize; NAMES.len()],
+    through: [usize; THROUGH.len()],
     unmapped: [usize; UNMAPPED.len()],
     calls: [usize; calls::NAMES.len()],
 }
@@ -53,6 +76,7 @@ impl Events {
     pub fn full() -> Events {
         Events {
             steps: [1; NAMES.len()],
+            through: [1; THROUGH.len()],
             unmapped: [1; UNMAPPED.len()],
             calls: [1; calls::NAMES.len()],
         }
@@ -60,7 +84,8 @@ impl Events {
 
     /// The counts, of which none may be 0.
     pub fn needed(&mut self) -> Vec<&mut usize> {
-        self.steps.iter_mut().chain(&mut self.unmapped).chain(&mut self.calls).collect()
+        let counts = self.steps.iter_mut().chain(&mut self.through).chain(&mut self.unmapped);
+        counts.chain(&mut self.calls).collect()
     }
 
     pub fn watch(&mut self, journals: &[Journal]) {
@@ -80,12 +105,25 @@ impl Events {
                     _ => {}
                 }
             }
+            self.watch_through(journal);
+        }
+    }
+
+    fn watch_through(&mut self, journal: &Journal) {
+        let mut state = fresh_with(Policy::WriteThrough);
+        for record in journal.bytes[HEADER.len()..].chunks_exact(8) {
+            let before = state.clone();
+            if let (0, Some(action)) = (judge(&mut state, record).0, decode(record)) {
+                let passage = Passage { action, before: &before, after: &state };
+                add(&mut self.through, &passage.through());
+            }
         }
     }
 
     fn all(&self) -> impl Iterator<Item = (&str, usize)> + '_ {
-        let names = NAMES.into_iter().chain(UNMAPPED).chain(calls::NAMES);
-        names.zip(self.steps.into_iter().chain(self.unmapped).chain(self.calls))
+        let names = NAMES.into_iter().chain(THROUGH).chain(UNMAPPED).chain(calls::NAMES);
+        let counts = self.steps.into_iter().chain(self.through).chain(self.unmapped);
+        names.zip(counts.chain(self.calls))
     }
 
     pub fn print(&self) {
@@ -142,6 +180,60 @@ impl Passage<'_> {
             self.before.free != 0 && self.after.free == 0,
             self.given_back(),
         ]
+    }
+
+    fn through(&self) -> [bool; THROUGH.len()] {
+        let a = self.action;
+        let (write, hyper) = match a {
+            Action::Write { hyper, .. } => (true, hyper),
+            _ => (false, false),
+        };
+        let cached = self.entry().is_some_and(|page| self.before.page(page).mark == 1);
+        let (bare, line) = (write && !cached, write && cached);
+        let hit = line && self.before.lines().any(|line| line.key() == self.key());
+        let (miss, out) = (line && !hit, self.taken_out());
+        let moved = self.memory_changed();
+        let turned = matches!(a, Action::Switch { .. } | Action::Lswitch { .. });
+        let [saved, loaded] = [self.before, self.after].map(|s| s.cache[STEALTH.home()].ways[0]);
+        let marks = |s: &State| s.pages.iter().filter(|page| page.mark == 0).count();
+        [
+            hit,
+            miss && !out,
+            miss && out,
+            hit && moved,
+            miss && moved,
+            line && self.key().is_some_and(|(va, _)| va == STEALTH),
+            bare,
+            line && hyper,
+            bare && hyper,
+            matches!(a, Action::Read { .. }) && out,
+            out && marks(self.after) > marks(self.before),
+            matches!(a, Action::Del { .. }) && out,
+            self.given_back(),
+            turned && !saved.page.is_empty(),
+            turned && loaded.value != 0,
+            matches!(a, Action::NewSm { .. }) && loaded.value != 0,
+        ]
+    }
+
+    /// The key of the action's line.
+    fn key(&self) -> Option<(Virt, Mach)> {
+        match self.action {
+            Action::Read { va, .. } | Action::Write { va, .. } => Some((va, self.entry()?)),
+            _ => None,
+        }
+    }
+
+    /// A line is gone, whatever came in its place.
+    fn taken_out(&self) -> bool {
+        let key = |line: &Line| (!line.page.is_empty()).then_some((line.address, line.page));
+        let after: Vec<_> = self.after.lines().filter_map(key).collect();
+        self.before.lines().filter_map(key).any(|line| !after.contains(&line))
+    }
+
+    fn memory_changed(&self) -> bool {
+        let pages = self.before.pages.iter().zip(&self.after.pages);
+        pages.into_iter().any(|(before, after)| before.memory != after.memory)
     }
 
     /// A line is gone whose value memory had not, and memory has it now.

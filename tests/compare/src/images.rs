@@ -5,40 +5,48 @@ use std::ops::Range;
 use second::gen::deep;
 use second::journal::answer_bytes;
 use second::rng::Rng;
-use second::{damage, fresh, image_of, run_journal, step, State};
-use second::{IMAGE_BYTES, IMAGE_HEADER, STATE_BYTES};
+use second::{damage, fresh_with, run_journal, step, Policy, State};
+use second::{IMAGE_BYTES, IMAGE_HEADER, OLD_BYTES, STATE_BYTES};
 
 use crate::journals::Journal;
+use crate::plan::policy;
 use crate::task::{Item, Task};
+use crate::versions::Version;
 
 /// Marks in other letters, another order and of another file.
 const MARKS: [&[u8; 3]; 10] =
     [b"rps", b"rPS", b"RpS", b"RPs", b"RSP", b"PRS", b"SPR", b"RPJ", b"PS\x01", b"\0\0\0"];
 
 /// Both bytes wrong, the low one alone right, the high one alone, the two the other way round.
-const VERSIONS: [u16; 8] = [0, 2, 255, 256, 257, 513, 1 + 256 * 255, 65_535];
+const VERSIONS: [u16; 12] =
+    [0, 3, 255, 256, 257, 258, 512, 513, 514, 1 + 256 * 255, 2 + 256 * 255, 65_535];
 
-/// Lengths of images and buffers: none to a few bytes, all around the right one, and far ones
-/// that agree with it in some of their bits.
+/// Lengths of images and buffers: none to a few bytes, all around the right ones, and far ones
+/// that agree with these in some of their bits.
 const NEAR: [Range<usize>; 2] = [0..13, 4_700..4_801];
-const FAR: [usize; 9] = [
+const FAR: [usize; 14] = [
     256,
-    663,
+    OLD_BYTES - 4096,
+    IMAGE_BYTES - 4096,
     IMAGE_BYTES - 256,
+    OLD_BYTES + 256,
     IMAGE_BYTES + 256,
-    8_855,
+    OLD_BYTES + 4096,
+    IMAGE_BYTES + 4096,
+    2 * OLD_BYTES,
     2 * IMAGE_BYTES,
     32_768,
-    37_527,
+    OLD_BYTES + 32_768,
+    IMAGE_BYTES + 32_768,
     65_535,
 ];
 
-/// Where runs of every profile lead, halfway and at the end.
+/// Where runs of every profile lead, halfway and at the end, under both policies by turns.
 pub fn led_to(journals: &[Journal]) -> Vec<State> {
-    let mut states = vec![fresh()];
-    for Journal { bytes, .. } in journals.iter().filter(|j| j.seed % 4 == 1) {
+    let mut states: Vec<State> = Policy::BOTH.map(fresh_with).into();
+    for Journal { bytes, seed, .. } in journals.iter().filter(|j| j.seed % 4 == 1) {
         for length in [bytes.len() / 2, bytes.len()] {
-            let mut state = fresh();
+            let mut state = fresh_with(policy(*seed as usize / 4));
             let part = &bytes[..length];
             if run_journal(&mut state, part, &mut vec![0; answer_bytes(part)]).is_ok() {
                 states.push(state);
@@ -48,14 +56,17 @@ pub fn led_to(journals: &[Journal]) -> Vec<State> {
     states
 }
 
-/// States along accepted runs, with much in use.
+/// So many states of each policy one after the other, first of write-back.
+pub const IN_A_ROW: usize = 12;
+
+/// States along accepted runs, with much in use, under both policies by turns.
 pub fn along() -> Vec<State> {
     let mut states = Vec::new();
     for seed in 0..4 {
-        let mut state = fresh();
+        let mut state = fresh_with(policy(seed as usize));
         for (i, record) in deep::records(seed + 3000, 900).iter().enumerate() {
             step(&mut state, record);
-            if i % 75 == 74 {
+            if i % (900 / IN_A_ROW) == 900 / IN_A_ROW - 1 {
                 states.push(state.clone());
             }
         }
@@ -109,17 +120,17 @@ impl Plan {
     /// A machine to put an image over: fresh, of a run, damaged, or any bytes at all.
     pub fn receiver(&mut self) -> Vec<u8> {
         match self.rng.below(5) {
-            0 => fresh().to_bytes(),
+            0 => fresh_with(policy(self.rng.below(2))).to_bytes(),
             1 => self.noise(STATE_BYTES),
             2 => self.damaged[self.rng.below(self.damaged.len())].to_bytes(),
             _ => self.run[self.rng.below(self.run.len())].to_bytes(),
         }
     }
 
-    /// The image of a state that is valid or of one that mostly is not.
-    fn image(&mut self, valid: bool) -> Vec<u8> {
+    /// A state that is valid or one that mostly is not.
+    fn state(&mut self, valid: bool) -> State {
         let from = if valid { &self.run } else { &self.damaged };
-        image_of(&from[self.rng.below(from.len())])
+        from[self.rng.below(from.len())].clone()
     }
 
     /// Opened over one machine and loaded over another.
@@ -142,84 +153,121 @@ impl Plan {
 
     fn whole(&mut self, states: Vec<State>) {
         for (i, state) in states.iter().enumerate() {
-            self.take("whole", i, image_of(state));
+            for version in Version::BOTH {
+                self.take("whole", i, version.image_of(state));
+            }
             self.save("whole", i, state.to_bytes(), IMAGE_BYTES);
         }
     }
 
-    /// Damaged by aim at each rule and at random.
+    /// Damaged by aim at each rule and at random; every third as version 1 too.
     fn broken(&mut self, seeds: u64, each: usize) {
         for seed in 0..seeds {
-            for state in damage::states(seed + 600, each) {
-                self.take("broken", seed as usize, image_of(&state));
+            for (i, state) in damage::states(seed + 600, each).iter().enumerate() {
+                self.take("broken", seed as usize, Version::Two.image_of(state));
                 self.save("broken", seed as usize, state.to_bytes(), IMAGE_BYTES);
+                if i % 3 == 0 {
+                    self.take("broken", seed as usize, Version::One.image_of(state));
+                }
             }
         }
     }
 
-    /// Each byte of the header alone, with every other value; marks and versions as a whole.
+    /// Of images of both versions.
     fn headers(&mut self) {
-        let mut others = Vec::new();
-        for (at, right) in IMAGE_HEADER.into_iter().enumerate() {
-            for byte in (0..=255).filter(|byte| *byte != right) {
-                let mut header = IMAGE_HEADER;
-                header[at] = byte;
-                others.push(header);
+        for version in Version::BOTH {
+            for (i, header) in other_headers(version.header()).into_iter().enumerate() {
+                let mut image = version.image_of(&self.state(i % 2 == 0));
+                image[..header.len()].copy_from_slice(&header);
+                self.take("headers", i, image);
             }
-        }
-        let [.., low, high] = IMAGE_HEADER;
-        others.extend(MARKS.map(|[r, p, s]| [*r, *p, *s, low, high]));
-        let [r, p, s, ..] = IMAGE_HEADER;
-        others.extend(VERSIONS.map(u16::to_le_bytes).map(|[low, high]| [r, p, s, low, high]));
-        for (i, header) in others.into_iter().enumerate() {
-            let mut image = self.image(i % 2 == 0);
-            image[..header.len()].copy_from_slice(&header);
-            self.take("headers", i, image);
         }
     }
 
-    /// Cut short or with more behind it, the header right or not; and buffers of these lengths.
+    /// Cut short or with more behind it, the header of either version and right or not; and buffers of these lengths.
     fn lengths(&mut self) {
         for length in NEAR.into_iter().flatten().chain(FAR) {
-            for (valid, header) in [(true, true), (false, true), (true, false), (false, false)] {
-                let mut image = self.image(valid);
-                image[length % IMAGE_HEADER.len()] ^= !header as u8;
-                let more = self.noise(length.saturating_sub(IMAGE_BYTES));
+            for (i, version) in (0..4).flat_map(|i| Version::BOTH.map(|version| (i, version))) {
+                let mut image = version.image_of(&self.state(i % 2 == 0));
+                image[length % IMAGE_HEADER.len()] ^= (i / 2) as u8;
+                let more = self.noise(length.saturating_sub(image.len()));
                 image.extend(more);
                 image.truncate(length);
                 self.take("lengths", length, image);
             }
-            for image in [image_of(&fresh()), self.image(true), self.image(false)] {
-                self.save("lengths", length, image[IMAGE_HEADER.len()..].to_vec(), length);
+            let fresh = Policy::BOTH.map(fresh_with).into_iter();
+            for state in fresh.chain([true, false].map(|valid| self.state(valid))) {
+                self.save("lengths", length, state.to_bytes(), length);
             }
         }
     }
 
     /// Every byte alone changed, by one bit, to 2 and to any number: of an image, over the machine whose image it was, and of a
-    /// machine that is saved.
+    /// machine that is saved. Of version 1 by one bit.
     fn places(&mut self) {
         for at in 0..IMAGE_BYTES {
             let state = self.run[at % self.run.len()].clone();
-            let image = image_of(&state);
+            let image = Version::Two.image_of(&state);
             let any = self.rng.byte();
             let others = [image[at] ^ 1, 2, any].into_iter().filter(|other| *other != image[at]);
             for (i, other) in others.enumerate() {
-                let mut image = image.clone();
-                image[at] = other;
-                let machine = state.to_bytes();
-                self.put(
-                    "places",
-                    at,
-                    Task::Load { machine: machine.clone(), image: image.clone() },
-                );
                 // the rest once: open judges nothing, and save judges as load does
-                if i == 0 {
-                    if at >= IMAGE_HEADER.len() {
-                        self.save("places", at, image[IMAGE_HEADER.len()..].to_vec(), IMAGE_BYTES);
-                    }
-                    self.put("places", at, Task::Open { machine, image });
+                self.place(&state, &image, at, other, i == 0);
+                if i == 0 && at >= IMAGE_HEADER.len() {
+                    let machine = with(&image, at, other)[IMAGE_HEADER.len()..].to_vec();
+                    self.save("places", at, machine, IMAGE_BYTES);
                 }
             }
         }
+        for at in 0..OLD_BYTES {
+            let state = self.run[at % self.run.len()].clone();
+            let image = Version::One.image_of(&state);
+            self.place(&state, &image, at, image[at] ^ 1 << (at % 8), true);
+        }
+        self.policies();
     }
+
+    /// Loaded, and perhaps opened.
+    fn place(&mut self, state: &State, image: &[u8], at: usize, byte: u8, opened: bool) {
+        let (machine, image) = (state.to_bytes(), with(image, at, byte));
+        if opened {
+            let (machine, image) = (machine.clone(), image.clone());
+            self.put("places", at, Task::Open { machine, image });
+        }
+        self.put("places", at, Task::Load { machine, image });
+    }
+
+    /// Each state with another policy: as one of the other, valid or not, or with none.
+    fn policies(&mut self) {
+        for (i, state) in self.run.clone().iter().enumerate() {
+            let image = Version::Two.image_of(state);
+            for byte in [0, 1, 2, 3, 128, 255] {
+                self.place(state, &image, OLD_BYTES, byte, true);
+                let machine = with(&image, OLD_BYTES, byte)[IMAGE_HEADER.len()..].to_vec();
+                self.save("policies", i, machine, IMAGE_BYTES);
+            }
+        }
+    }
+}
+
+fn with(image: &[u8], at: usize, byte: u8) -> Vec<u8> {
+    let mut image = image.to_vec();
+    image[at] = byte;
+    image
+}
+
+/// Each byte alone, with every other value; marks and versions as a whole.
+fn other_headers(right: [u8; 5]) -> Vec<[u8; 5]> {
+    let mut others = Vec::new();
+    for at in 0..right.len() {
+        for byte in (0..=255).filter(|byte| *byte != right[at]) {
+            let mut header = right;
+            header[at] = byte;
+            others.push(header);
+        }
+    }
+    let [r, p, s, low, high] = right;
+    others.extend(MARKS.map(|[r, p, s]| [*r, *p, *s, low, high]));
+    others.extend(VERSIONS.map(u16::to_le_bytes).map(|[low, high]| [r, p, s, low, high]));
+    others
 }

@@ -8,6 +8,7 @@ mod declined;
 mod difference;
 mod events;
 mod feeds;
+mod host_tally;
 mod hosts;
 mod image_tally;
 mod images;
@@ -19,12 +20,14 @@ mod piece_met;
 mod piece_tally;
 mod pieces;
 mod plan;
+mod policies;
 mod programs;
 mod self_test;
 mod streams;
 mod tally;
 mod task;
 mod trips;
+mod versions;
 
 use std::io::Write;
 use std::path::Path;
@@ -105,12 +108,13 @@ fn everything(probe: Program, rpj: Option<Program>) -> Result<(), String> {
     if !missing.is_empty() {
         return Err(missing.join("\n"));
     }
-    let Tally { journals, records, states, valid, images, pieces, .. } = tally;
+    let Tally { journals, pairs, records, states, valid, images, pieces, .. } = tally;
     println!(
-        "no difference: {journals} journals with {records} records, {states} states ({} not \
-         valid), {} images opened, loaded or saved, {trips} runs with a save and a load between, \
-         {} pieces fed, {chains} journals in pieces to their ends, {printed} outputs of rpj, \
-         {hosts} runs of it with images, {streams} with journals as they arrive, {} s",
+        "no difference: {journals} journals with {records} records ({pairs} pairs, on both \
+         policies), {states} states ({} not valid), {} images opened, loaded or saved, {trips} runs \
+         with a save and a load between, {} pieces fed, {chains} journals in pieces to their ends, \
+         {printed} outputs of rpj, {hosts} runs of it with images, {streams} with journals as they \
+         arrive, {} s",
         states - valid,
         images.tasks,
         pieces.calls,
@@ -147,8 +151,9 @@ fn by_rpj(rpj: Program, journals: &[Journal]) -> Result<(usize, usize, usize), S
 
 fn too_few(tally: &Tally, printed: Option<usize>) -> Vec<String> {
     let least = [
-        ("journals", tally.journals, 300),
-        ("records", tally.records, 300_000),
+        ("journals", tally.journals, 600),
+        ("journals on both policies", tally.pairs, 300),
+        ("records", tally.records, 600_000),
         ("states", tally.states - tally.valid, 5_000),
         ("images", tally.images.tasks, 20_000),
         ("pieces fed", tally.pieces.calls, 10_000),
@@ -183,7 +188,8 @@ impl From<Stop> for String {
     }
 }
 
-/// All tasks in one process of `probe`, each result against the second program's.
+/// All tasks in one process of `probe`, each result against the second program's, and those of one journal on both policies
+/// against each other.
 /// One byte of one result may be spoiled first.
 fn same(
     probe: Program,
@@ -191,28 +197,41 @@ fn same(
     tally: &mut Tally,
     spoiled: Option<Spot>,
 ) -> Result<(), Stop> {
+    // the result before, for the other policy
+    let mut before = Vec::new();
     programs::probe(probe, items, |i, mut ours| {
         if let Some(spot) = spoiled.filter(|spot| spot.task == i) {
             ours[spot.byte] ^= 1;
         }
         let Item { profile, seed, task } = &items[i];
         tally.note(task, &ours);
-        let second = task.expected();
-        let Some(text) = difference::of_results(task, &ours, &second) else { return Ok(()) };
-        let byte = ours.iter().zip(&second).take_while(|(a, b)| a == b).count();
-        let first = first_record(probe, task).unwrap_or_default();
-        let text = format!("difference: profile {profile}, seed {seed}, task {i}: {text}{first}");
-        Err(Stop { at: Some(Spot { task: i, byte }), text })
+        against_second(probe, i, &items[i], &ours)?;
+        let pair = i > 0 && policies::are_pair(&items[i - 1].task, task);
+        let other = pair.then(|| policies::of_pair(&before, &ours)).flatten();
+        tally.pairs += pair as usize;
+        before = ours;
+        let stop = |text| Err(format!("difference: profile {profile}, seed {seed}: {text}").into());
+        other.map_or(Ok(()), stop)
     })
+}
+
+fn against_second(probe: Program, i: usize, item: &Item, ours: &[u8]) -> Result<(), Stop> {
+    let Item { profile, seed, task } = item;
+    let second = task.expected();
+    let Some(text) = difference::of_results(task, ours, &second) else { return Ok(()) };
+    let byte = ours.iter().zip(&second).take_while(|(a, b)| a == b).count();
+    let (on, first) = (task.started(), first_record(probe, task).unwrap_or_default());
+    let text = format!("difference: profile {profile}, seed {seed}{on}, task {i}: {text}{first}");
+    Err(Stop { at: Some(Spot { task: i, byte }), text })
 }
 
 /// A record after which results differ, with none before it in the journal's beginning up to it, in hex.
 fn first_record(probe: Program, task: &Task) -> Option<String> {
-    let Task::Run { machine, journal, buffer } = task else { return None };
+    let Task::Run { on, journal, buffer } = task else { return None };
     let differs = |n: usize| {
         let journal = journal[..journal.len().min(8 + 8 * n)].to_vec();
         let shown = to_hex(&journal);
-        let task = Task::Run { machine: machine.clone(), journal, buffer: buffer.clone() };
+        let task = Task::Run { on: on.clone(), journal, buffer: buffer.clone() };
         let text = differs(probe, Item { profile: "beginning", seed: 0, task })?;
         Some(format!("\nafter {n} records: {text}\n  journal {shown}"))
     };
@@ -251,12 +270,16 @@ fn print_all<'a>(
     let mut printed = 0;
     for Journal { profile, seed, bytes } in journals {
         let piece = if seed % 8 < 2 { 1000 } else { bytes.len().max(1) };
-        let ours = programs::rpj(rpj, bytes, piece)?;
         let second = second::program_output(bytes);
-        if let Some(text) = difference::of_texts(&ours, second.as_bytes()) {
-            return Err(format!("difference: rpj, profile {profile}, seed {seed}: {text}"));
+        // every fourth with write-through too, which changes no line
+        for through in [false, true].into_iter().take(1 + (seed % 4 == 1) as usize) {
+            let ours = programs::rpj(rpj, through, bytes, piece)?;
+            if let Some(text) = difference::of_texts(&ours, second.as_bytes()) {
+                let on = if through { " with write-through" } else { "" };
+                return Err(format!("difference: rpj{on}, profile {profile}, seed {seed}: {text}"));
+            }
+            printed += 1;
         }
-        printed += 1;
     }
     Ok(printed)
 }

@@ -1,11 +1,11 @@
 //! What a run has not met must be missed: each count of the tally and of the events left out, and each run of a few that end with a drop.
 
-use second::{fresh, step, HEADER};
+use second::{fresh, step, Policy, HEADER};
 
 use crate::events::Events;
-use crate::hosts::HostTally;
+use crate::host_tally::HostTally;
 use crate::tally::Tally;
-use crate::task::Task;
+use crate::task::{On, Task};
 
 /// Kind, a, b and call of each record.
 type Records = &'static [[u8; 4]];
@@ -94,9 +94,9 @@ fn bytes(records: &[[u8; 4]]) -> Vec<u8> {
     records.iter().flat_map(|[kind, a, b, call]| [*kind, *a, *b, *call, 0, 0, 0, 0]).collect()
 }
 
-fn run(machine: Option<Vec<u8>>, body: &[u8]) -> Task {
+fn run(on: On, body: &[u8]) -> Task {
     let journal = [&HEADER, body].concat();
-    Task::Run { machine, journal, buffer: vec![0; body.len()] }
+    Task::Run { on, journal, buffer: vec![0; body.len()] }
 }
 
 /// The machine before the last record, and that record.
@@ -110,12 +110,12 @@ fn at_last(records: Records) -> (Vec<u8>, Vec<u8>) {
 }
 
 fn whole(records: Records) -> Task {
-    run(None, &bytes(records))
+    run(On::Fresh(Policy::WriteBack), &bytes(records))
 }
 
 fn continued(records: Records) -> Task {
     let (machine, record) = at_last(records);
-    run(Some(machine), &record)
+    run(On::Machine(machine), &record)
 }
 
 fn judged(records: Records) -> Task {

@@ -1,9 +1,10 @@
 //! What is noted of calls of feed: of each of a few, exactly what it is.
 
 use second::state::Mode;
-use second::{fresh, Kept, State, HEADER, KEPT};
+use second::{fresh, fresh_with, Kept, Policy, State, HEADER, KEPT};
 
 use crate::feeds::{Feed, ALL};
+use crate::images::{along, IN_A_ROW};
 use crate::piece_tally::PieceTally;
 use crate::pieces::kept;
 
@@ -21,8 +22,16 @@ fn marked(feed: Feed) -> Feed {
     Feed { machine: State { free: u64::MAX, ..fresh() }.to_bytes(), ..feed }
 }
 
-fn on_fresh(feed: Feed) -> Feed {
-    Feed { machine: fresh().to_bytes(), ..feed }
+fn on_fresh(policy: Policy, feed: Feed) -> Feed {
+    Feed { machine: fresh_with(policy).to_bytes(), ..feed }
+}
+
+/// A machine of write-through with a line that memory has not: rule 11.
+fn dirty(feed: Feed) -> Feed {
+    let mut state = along()[IN_A_ROW].clone();
+    let line = state.cache.iter_mut().flat_map(|set| &mut set.ways).find(|l| !l.page.is_empty());
+    line.into_iter().for_each(|line| line.value ^= 1);
+    Feed { machine: state.to_bytes(), ..feed }
 }
 
 /// Header bytes, the one at a place wrong.
@@ -38,6 +47,7 @@ fn not_valid() -> Vec<Noted> {
     let ahead = [&HEADER[..], &STOP].concat();
     vec![
         (marked(call([0; KEPT], &ahead, 1, false, 8)), "1", &["rule 2 alone"]),
+        (dirty(call([0; KEPT], &ahead, 1, false, 8)), "1", &["rule 11 alone"]),
         (
             marked(call([0; KEPT], b"x", 1, false, 8)),
             "1",
@@ -100,7 +110,7 @@ fn no_room() -> Vec<Noted> {
 fn headers_taken() -> Vec<Noted> {
     vec![
         (
-            on_fresh(call([0; KEPT], &HEADER[..3], 0, false, 0)),
+            on_fresh(Policy::WriteBack, call([0; KEPT], &HEADER[..3], 0, false, 0)),
             "0",
             &[
                 "0 header bytes before",
@@ -109,6 +119,19 @@ fn headers_taken() -> Vec<Noted> {
                 "header bytes taken with allowance 0",
                 "no buffer and no record",
                 "on the fresh machine",
+            ],
+        ),
+        (
+            on_fresh(Policy::WriteThrough, call(kept(8, &[]), &[], 1, false, 0)),
+            "0",
+            &[
+                "8 header bytes before",
+                "0 bytes of a begun record left",
+                "allowance larger than what is at hand, no begun record",
+                "an empty piece",
+                "no buffer and no record",
+                "on the fresh machine of write-through",
+                "on a machine of write-through",
             ],
         ),
         (

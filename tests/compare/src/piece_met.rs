@@ -43,7 +43,7 @@ const ALLOWED: [&str; 6] = [
 ];
 
 /// What else a call that is answered 0 may be.
-pub const DONE: [&str; 17] = [
+pub const DONE: [&str; 19] = [
     "header bytes taken with allowance 0",
     "header bytes taken, and a whole record left",
     "the header completed and a record run",
@@ -61,6 +61,8 @@ pub const DONE: [&str; 17] = [
     "a record accepted",
     "a record refused",
     "on the fresh machine",
+    "on the fresh machine of write-through",
+    "on a machine of write-through",
 ];
 
 /// What begin is given.
@@ -92,7 +94,6 @@ const WAYS: [(Way, &str); 9] = [
     (Way::ByteByByte, "one byte in each call"),
 ];
 
-const RULES: usize = 10;
 pub const HEADER_BYTES: usize = HEADER.len();
 pub const MOST_BEGUN: usize = 7;
 
@@ -156,7 +157,7 @@ impl fmt::Display for Met {
 pub fn all() -> Vec<Met> {
     let mut all: Vec<Met> = NUMBERS.map(Met::Number).into();
     all.extend(ORDER.map(|(first, later)| Met::Order(first, later)));
-    all.extend((0..RULES).map(Met::Rule));
+    all.extend((0..second::RULES).map(Met::Rule));
     all.extend((0..COUNTS.len()).map(Met::Count));
     for at in 0..HEADER_BYTES {
         all.extend((0..=at).map(|taken| Met::Wrong(at, taken)));

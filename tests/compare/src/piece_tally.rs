@@ -4,10 +4,13 @@ use std::collections::BTreeMap;
 
 use second::damage::broken_alone;
 use second::journal::MOST_RECORDS;
-use second::{fresh, Kept, State, HEADER};
+use second::{fresh, fresh_with, Kept, Policy, State, HEADER, STATE_BYTES};
 
 use crate::feeds::{Feed, Given, ALL};
 use crate::piece_met::{all, Met, Way, DONE, GROWN, HEADER_BYTES, MOST_BEGUN};
+
+/// Where a machine has its policy (docs/STATE.md).
+const POLICY: usize = STATE_BYTES - 1;
 
 pub struct PieceTally {
     counts: BTreeMap<Met, usize>,
@@ -211,6 +214,8 @@ impl AtHand<'_> {
             given.answers().any(|answer| answer[0] == 0),
             given.answers().any(|answer| answer[0] != 0),
             *machine == fresh().to_bytes(),
+            *machine == fresh_with(Policy::WriteThrough).to_bytes(),
+            machine[POLICY] == Policy::WriteThrough.byte(),
         ]
     }
 }

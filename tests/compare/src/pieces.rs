@@ -2,7 +2,7 @@
 
 use second::journal::MOST_RECORDS;
 use second::rng::Rng;
-use second::{damage, fresh, Kept, State, HEADER, KEPT};
+use second::{damage, fresh_with, Kept, Policy, State, HEADER, KEPT};
 
 use crate::feeds::{Feed, ALL};
 use crate::images;
@@ -104,7 +104,7 @@ struct Plan {
 impl Plan {
     fn new() -> Plan {
         let mut valid = images::along();
-        valid.extend((0..12).map(|_| fresh()));
+        valid.extend((0..6).flat_map(|_| Policy::BOTH.map(fresh_with)));
         let records = ["near", "crowd", "noise"].map(|name| journal(name, 2)[8..].to_vec());
         let rng = Rng::new(0x0070_6965_6365);
         Plan { valid, records: records.concat(), rng, items: Vec::new() }

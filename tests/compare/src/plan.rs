@@ -3,24 +3,29 @@
 use second::gen::{deep, near};
 use second::journal::answer_bytes;
 use second::rng::Rng;
-use second::{damage, fresh, step, State, HEADER};
+use second::{damage, fresh_with, step, Policy, State, HEADER};
 
 use crate::journals::{journal, Journal};
-use crate::task::{Item, Task};
+use crate::task::{Item, On, Task};
 
 /// A buffer of so many bytes with something in it.
 fn buffer(size: usize) -> Vec<u8> {
     (0..size.min(65_535)).map(|i| (i * 37 + 165) as u8).collect()
 }
 
-/// Each journal on the fresh machine, with room for its answers and up to nine bytes more.
+/// By turns.
+pub fn policy(turn: usize) -> Policy {
+    Policy::BOTH[turn % 2]
+}
+
+/// Each journal on the fresh machine of both policies, one after the other, with room for its answers and up to nine bytes more.
 pub fn runs(journals: &[Journal]) -> Vec<Item> {
-    let item = |j: &Journal| {
+    let item = |j: &Journal, policy| {
         let buffer = buffer(answer_bytes(&j.bytes) + j.seed as usize % 10);
-        let task = Task::Run { machine: None, journal: j.bytes.clone(), buffer };
+        let task = Task::Run { on: On::Fresh(policy), journal: j.bytes.clone(), buffer };
         Item { profile: j.profile, seed: j.seed, task }
     };
-    journals.iter().map(item).collect()
+    journals.iter().flat_map(|j| Policy::BOTH.map(|policy| item(j, policy))).collect()
 }
 
 /// Journals by turns, with the first seed of each: short ones, ones with another header, ones about as long as may be.
@@ -40,7 +45,8 @@ pub fn rooms() -> Vec<Item> {
             4 => exact,
             _ => exact + 8,
         };
-        let task = Task::Run { machine: None, journal, buffer: buffer(size) };
+        let on = On::Fresh(policy(i as usize / 6));
+        let task = Task::Run { on, journal, buffer: buffer(size) };
         Item { profile: "room", seed: first + i % 8, task }
     };
     pairs.map(item).collect()
@@ -54,28 +60,29 @@ pub fn given(count: u64) -> Vec<Item> {
             _ => near::records(seed + 1000, 900),
         };
         let (first, rest) = records.split_at(600);
-        let mut state = fresh();
+        let mut state = fresh_with(policy(seed as usize / 2));
         for record in first {
             step(&mut state, record);
         }
         if seed % 3 == 2 {
-            state = damage::states(seed, 1).remove(0);
+            state = damage::states(seed, 1 + seed as usize).remove(seed as usize);
         }
         let mut journal = [&HEADER, &rest.concat()[..]].concat();
         journal[0] ^= (seed % 9 == 8) as u8;
         let size = if seed % 12 == 11 { 0 } else { 8 * rest.len() + 3 };
-        let task = Task::Run { machine: Some(state.to_bytes()), journal, buffer: buffer(size) };
+        let on = On::Machine(state.to_bytes());
+        let task = Task::Run { on, journal, buffer: buffer(size) };
         Item { profile: "given", seed, task }
     };
     (0..count).map(item).collect()
 }
 
-/// Every record of a few journals by itself, on the machine that those before it lead to.
+/// Every record of a few journals by itself, on the machine that those before it lead to, under one policy or the other.
 pub fn walks(journals: &[Journal], profiles: &[(&str, u64)]) -> Vec<Item> {
     let mut items = Vec::new();
     let chosen = |j: &&Journal| profiles.contains(&(j.profile, j.seed));
-    for Journal { bytes, seed, .. } in journals.iter().filter(chosen) {
-        let mut state = fresh();
+    for (i, Journal { bytes, seed, .. }) in journals.iter().filter(chosen).enumerate() {
+        let mut state = fresh_with(policy(i));
         for record in bytes[HEADER.len()..].chunks(8) {
             let task = Task::Judge { machine: state.to_bytes(), record: record.to_vec() };
             items.push(Item { profile: "walk", seed: *seed, task });
@@ -102,7 +109,7 @@ pub fn struck(seeds: u64, each: usize) -> Vec<Item> {
     let mut items = Vec::new();
     for seed in 0..seeds {
         let mut rng = Rng::new(seed ^ 0x7374_7275_636B);
-        let mut state = fresh();
+        let mut state = fresh_with(policy(seed as usize));
         for record in deep::records(seed + 2000, each) {
             step(&mut state, &record);
             items.push(judged("struck", seed, strike(&state, &mut rng), &mut rng));

@@ -13,8 +13,10 @@ use crate::task::{Item, Task};
 /// Before each piece of input, so that a read can come back with less than it asked for.
 const PAUSE: Duration = Duration::from_micros(50);
 
-/// The word that has `rpj` run a journal as it arrives, behind those for images.
+/// The word that has `rpj` run a journal as it arrives, behind those for images, and the one behind it that asks for write-through; each
+/// empty where it is not said.
 const STREAM: &str = "stream";
+const THROUGH: &str = "through";
 
 /// So long a line may take to come.
 const PATIENCE: Duration = Duration::from_secs(30);
@@ -102,32 +104,47 @@ fn at_end(mut output: impl Read) -> Result<(), String> {
     }
 }
 
-/// What `rpj` prints for a journal, which comes in pieces of so many bytes.
-pub fn rpj(program: Program, journal: &[u8], piece: usize) -> Result<Vec<u8>, String> {
-    printed(started(program, &[])?, journal, piece)
+/// What `rpj` prints for a journal, which comes in pieces of so many bytes; with no word at all, or with write-through.
+pub fn rpj(
+    program: Program,
+    through: bool,
+    journal: &[u8],
+    piece: usize,
+) -> Result<Vec<u8>, String> {
+    let words: &[&str] = if through { &["", "", "", THROUGH] } else { &[] };
+    printed(started(program, words)?, journal, piece)
 }
 
 /// What `rpj` leaves of a run from an image or to one.
 pub fn host(program: Program, host: &Host) -> Result<Left, String> {
     let room = Room::new(&host.files).map_err(|e| e.to_string())?;
+    let piece = host.stream.unwrap_or(host.journal.len()).max(1);
+    let text = printed(in_room(program, host, &room)?, &host.journal, piece)?;
+    room.left(text).map_err(|e| e.to_string())
+}
+
+/// The same where nothing of the journal comes, nor its end.
+pub fn unread(program: Program, host: &Host) -> Result<Left, String> {
+    let room = Room::new(&host.files).map_err(|e| e.to_string())?;
+    let text = in_step(in_room(program, host, &room)?, &[], false)?;
+    room.left(text).map_err(|e| e.to_string())
+}
+
+fn in_room(program: Program, host: &Host, room: &Room) -> Result<Child, String> {
     let named = |word: &str| match word {
         "" => PathBuf::new(),
         name => room.images().join(name),
     };
     // sh alone can give a program its descriptor 3
     let child = Command::new("sh")
-        .args(["-c", "exec \"$@\" 3>\"$0\""])
-        .args([&room.status(), program.start, program.path])
+        .args(["-c", "exec \"$@\" 2>\"$0/message\" 3>\"$0/status\""])
+        .args([&room.0, program.start, program.path])
         .args(host.words().map(named))
-        .args(host.stream.map(|_| STREAM))
+        .args([host.stream.map_or("", |_| STREAM), if host.through { THROUGH } else { "" }])
         .stdin(Stdio::piped())
         .stdout(Stdio::piped())
         .spawn();
-    let child = child.map_err(|e| format!("sh: {e}"))?;
-    let piece = host.stream.unwrap_or(host.journal.len()).max(1);
-    let text = printed(child, &host.journal, piece)?;
-    let status = std::fs::read(room.status()).map_err(|e| e.to_string())?;
-    Ok(Left { text, status, files: room.files().map_err(|e| e.to_string())? })
+    child.map_err(|e| format!("sh: {e}"))
 }
 
 /// What a program prints for a journal, which comes in pieces of so many bytes.
@@ -147,14 +164,19 @@ fn printed(mut child: Child, journal: &[u8], piece: usize) -> Result<Vec<u8>, St
     ended(child, Ok(text))
 }
 
-/// Gives `rpj` one piece after the other, and each only once all that those before it bring is printed; gives all that it
+/// `rpj` with a journal that is run as it arrives.
+pub fn stream(program: Program, through: bool) -> Result<Child, String> {
+    let words = ["", "", STREAM, THROUGH];
+    started(program, &words[..3 + through as usize])
+}
+
+/// Gives a program one piece after the other, and each only once all that those before it bring is printed; gives all that it
 /// prints. The input stays open until the program has ended, where no end of it is asked for.
 pub fn in_step(
-    program: Program,
+    mut child: Child,
     pieces: &[(&[u8], String)],
     ends: bool,
 ) -> Result<Vec<u8>, String> {
-    let mut child = started(program, &["", "", STREAM])?;
     let (mut input, mut output) = pipes(&mut child)?;
     let (send, parts) = channel();
     // ends with the program, and that is stopped where it is not waited for
@@ -200,7 +222,7 @@ fn started(program: Program, words: &[&str]) -> Result<Child, String> {
         .map_err(|e| format!("{}: {e}", program.start.display()))
 }
 
-/// A folder with images, and a file for the status beside it; gone at the end.
+/// A folder with images, and files for the status and for what is said on standard error beside it; gone at the end.
 struct Room(PathBuf);
 
 impl Room {
@@ -217,8 +239,11 @@ impl Room {
         self.0.join("images")
     }
 
-    fn status(&self) -> PathBuf {
-        self.0.join("status")
+    /// With the text that was printed.
+    fn left(&self, text: Vec<u8>) -> io::Result<Left> {
+        let [status, message] = ["status", "message"].map(|name| std::fs::read(self.0.join(name)));
+        let message = [!message?.is_empty() as u8];
+        Ok(Left { text, status: status?, message, files: self.files()? })
     }
 
     fn files(&self) -> io::Result<Files> {

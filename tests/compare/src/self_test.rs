@@ -4,6 +4,7 @@ use crate::chains::Chain;
 use crate::hosts::{self, Left};
 use crate::images;
 use crate::journals::{self, Journal};
+use crate::policies::{self, Pair};
 use crate::programs::Program;
 use crate::tally::Tally;
 use crate::task::Item;
@@ -42,7 +43,7 @@ pub fn run(probe: Program, rpj: Option<Program>) -> Result<(), String> {
         }
         Ok(())
     })?;
-    seen += trip(probe)? + chain(probe)?;
+    seen += trip(probe)? + chain(probe)? + pair(probe)?;
     if let Some(rpj) = rpj {
         seen += texts(rpj)? + left(rpj)?;
     }
@@ -61,7 +62,7 @@ fn texts(rpj: Program) -> Result<usize, String> {
     let journal = journals::journal("lengths", 37);
     let second = second::program_output(&journal);
     let second = second.as_bytes();
-    let ours = programs::rpj(rpj, &journal, journal.len())?;
+    let ours = programs::rpj(rpj, false, &journal, journal.len())?;
     if let Some(text) = difference::of_texts(&ours, second) {
         return Err(format!("rpj differs as it is: {text}"));
     }
@@ -83,8 +84,15 @@ fn texts(rpj: Program) -> Result<usize, String> {
 
 /// Each byte of what counts on a trip changed.
 fn trip(probe: Program) -> Result<usize, String> {
-    let trip = trips::trips(probe, vec![(0, 333)])?.swap_remove(0);
-    each_byte("a trip", trip, Trip::wrong, Trip::byte)
+    // write-back, write-through, and over version 1
+    let trips = trips::trips(probe, vec![(0, 333), (2, 333), (4, 333)])?;
+    trips.into_iter().map(|trip| each_byte("a trip", trip, Trip::wrong, Trip::byte)).sum()
+}
+
+/// Each byte of what counts on both policies changed.
+fn pair(probe: Program) -> Result<usize, String> {
+    let pair = programs::asked(probe, |ask| policies::one(ask))?;
+    each_byte("a pair", pair, Pair::wrong, Pair::byte)
 }
 
 /// Each byte of what counts over a chain of calls changed.
@@ -116,9 +124,10 @@ fn each_byte<T>(
 /// A byte of what a run with images leaves, by its number in one part of it.
 type Part = fn(&mut Left, usize) -> Option<&mut u8>;
 
-const PARTS: [Part; 3] = [
+const PARTS: [Part; 4] = [
     |left, at| left.text.get_mut(at),
     |left, at| left.status.get_mut(at),
+    |left, at| left.message.get_mut(at),
     |left, at| left.files.values_mut().flatten().nth(at),
 ];
 

@@ -2,7 +2,7 @@
 
 use crate::image_tally::ImageTally;
 use crate::piece_tally::PieceTally;
-use crate::task::{Task, RULES, VERDICT};
+use crate::task::{On, Task, RULES, VERDICT};
 
 /// Each kind with the numbers that the tables of docs/HOST.md let it get, but for 1.
 pub const KINDS: [(&str, &[usize]); 16] = [
@@ -52,12 +52,15 @@ pub struct Tally {
     drops: [[usize; NUMBERS]; 2],
     /// Verdicts of whole journals by number.
     verdicts: [usize; NUMBERS],
-    broken: [usize; 10],
-    alone: [usize; 10],
+    /// Rules broken alone, and with others.
+    alone: [usize; second::RULES],
+    with_others: [usize; second::RULES],
     pub images: ImageTally,
     pub pieces: PieceTally,
     pub valid: usize,
     pub journals: usize,
+    /// Journals on both policies, ours against ours.
+    pub pairs: usize,
     pub records: usize,
     pub states: usize,
 }
@@ -86,16 +89,17 @@ impl Tally {
         }
         let verdicts = self.verdicts.iter_mut().enumerate();
         needed.extend(verdicts.filter(|(n, _)| OF_NO_KIND.contains(n)));
-        needed.extend(self.alone.iter_mut().enumerate());
+        needed.extend(self.alone.iter_mut().chain(&mut self.with_others).enumerate());
         let needed = needed.into_iter().map(|(_, count)| count);
-        needed.chain(self.images.needed()).chain(self.pieces.needed()).collect()
+        let others = self.images.needed().into_iter().chain(self.pieces.needed());
+        needed.chain(others).chain([&mut self.pairs]).collect()
     }
 
     pub fn note(&mut self, task: &Task, ours: &[u8]) {
         match task {
-            Task::Run { machine, journal, .. } => {
-                let active = machine.as_ref().map_or(0, |machine| machine[ACTIVE]);
-                self.note_run(active, journal, ours);
+            Task::Run { on: On::Fresh(_), journal, .. } => self.note_run(0, journal, ours),
+            Task::Run { on: On::Machine(machine), journal, .. } => {
+                self.note_run(machine[ACTIVE], journal, ours);
             }
             Task::Judge { machine, record } => self.note_judgement(machine[ACTIVE], record, ours),
             Task::Open { .. } | Task::Load { .. } | Task::Save { .. } => {
@@ -124,13 +128,12 @@ impl Tally {
     fn note_judgement(&mut self, active: u8, record: &[u8], ours: &[u8]) {
         self.states += 1;
         self.note_answer(active, record, ours[RULES]);
-        self.valid += ours[10] as usize;
-        let broken: Vec<usize> = (0..10).filter(|rule| ours[*rule] == 0).collect();
-        for rule in &broken {
-            self.broken[*rule] += 1;
-        }
-        if let [rule] = broken[..] {
-            self.alone[rule] += 1;
+        let (holds, valid) = (&ours[..second::RULES], ours[second::RULES]);
+        self.valid += valid as usize;
+        let broken: Vec<usize> = (0..holds.len()).filter(|rule| holds[*rule] == 0).collect();
+        match broken[..] {
+            [rule] => self.alone[rule] += 1,
+            _ => broken.iter().for_each(|rule| self.with_others[*rule] += 1),
         }
     }
 
@@ -165,10 +168,10 @@ impl Tally {
         println!("{:<12}{}", "journals", cells(&self.verdicts[..NO_IMAGE]));
         let given: Vec<usize> = numbers.iter().map(|number| self.given(*number)).collect();
         println!("{:<12}{}", "given", cells(&given));
-        let rules: Vec<usize> = (1..=10).collect();
+        let rules: Vec<usize> = (1..=second::RULES).collect();
         println!("{:<12}{}", "rules", cells(&rules));
-        println!("{:<12}{}", "broken", cells(&self.broken));
         println!("{:<12}{}", "alone", cells(&self.alone));
+        println!("{:<12}{}", "with others", cells(&self.with_others));
         self.images.print();
         self.pieces.print();
     }
@@ -195,8 +198,13 @@ impl Tally {
         if self.verdicts[NO_IMAGE] > 0 {
             missing.push(format!("a journal got {NO_IMAGE}"));
         }
-        let never = (0..10).filter(|rule| self.alone[*rule] == 0);
-        missing.extend(never.map(|rule| format!("rule {} was never broken alone", rule + 1)));
+        for (how, counts) in [("alone", &self.alone), ("with others", &self.with_others)] {
+            let never = (0..counts.len()).filter(|rule| counts[*rule] == 0);
+            missing.extend(never.map(|rule| format!("rule {} was never broken {how}", rule + 1)));
+        }
+        if self.pairs == 0 {
+            missing.push("no journal was run on both policies".into());
+        }
         missing.extend(self.images.missing());
         missing.extend(self.pieces.missing());
         missing

@@ -1,13 +1,30 @@
 //! Tasks of the program `probe`: their bytes, and what the second program makes of them in the same bytes.
 
 use second::image::{load, open, save};
-use second::{begin, fresh, rules, run_journal, step, Kept, State, KEPT, STATE_BYTES};
+use second::{begin, fresh_with, rules, run_journal, step, Kept, Policy, State, KEPT, STATE_BYTES};
 
 use crate::feeds::Feed;
 
+/// What a journal is run on.
+#[derive(Clone)]
+pub enum On {
+    /// The fresh machine, started with a policy.
+    Fresh(Policy),
+    Machine(Vec<u8>),
+}
+
+impl On {
+    fn state(&self) -> State {
+        match self {
+            On::Fresh(policy) => fresh_with(*policy),
+            On::Machine(machine) => State::from_bytes(machine),
+        }
+    }
+}
+
 pub enum Task {
-    /// A journal with an answer buffer, on a machine or on the fresh one.
-    Run { machine: Option<Vec<u8>>, journal: Vec<u8>, buffer: Vec<u8> },
+    /// A journal with an answer buffer.
+    Run { on: On, journal: Vec<u8>, buffer: Vec<u8> },
     /// The rules on a machine, and one step.
     Judge { machine: Vec<u8>, record: Vec<u8> },
     /// An image over a machine, whatever it holds.
@@ -31,8 +48,8 @@ pub struct Item {
 
 /// Number and report, before the answers.
 pub const VERDICT: usize = 9;
-/// Ten rules and validity.
-pub const RULES: usize = 11;
+/// Eleven rules and validity.
+pub const RULES: usize = second::RULES + 1;
 /// Number and value of a step.
 pub const ANSWER: usize = 5;
 /// The number alone, of what is done with an image.
@@ -41,10 +58,12 @@ pub const NUMBER: usize = 1;
 impl Task {
     pub fn bytes(&self) -> Vec<u8> {
         match self {
-            Task::Run { machine: None, journal, buffer } => {
-                [&head(0, journal, buffer)[..], journal, buffer].concat()
+            Task::Run { on: On::Fresh(policy), journal, buffer } => {
+                let mut head = head(0, journal, buffer);
+                head[1] = policy.byte();
+                [&head[..], journal, buffer].concat()
             }
-            Task::Run { machine: Some(machine), journal, buffer } => {
+            Task::Run { on: On::Machine(machine), journal, buffer } => {
                 [&head(1, journal, buffer)[..], machine, journal, buffer].concat()
             }
             Task::Judge { machine, record } => {
@@ -62,6 +81,14 @@ impl Task {
         }
     }
 
+    /// The policy that the fresh machine is started with, in words.
+    pub fn started(&self) -> &'static str {
+        match self {
+            Task::Run { on: On::Fresh(Policy::WriteThrough), .. } => " on write-through",
+            _ => "",
+        }
+    }
+
     pub fn result_size(&self) -> usize {
         match self {
             Task::Run { buffer, .. } => VERDICT + buffer.len() + STATE_BYTES,
@@ -76,7 +103,7 @@ impl Task {
     /// What the second program says.
     pub fn expected(&self) -> Vec<u8> {
         match self {
-            Task::Run { machine, journal, buffer } => run(machine.as_deref(), journal, buffer),
+            Task::Run { on, journal, buffer } => run(on.state(), journal, buffer),
             Task::Judge { machine, record } => judge(machine, record),
             Task::Open { machine, image } => taken(open, machine, image),
             Task::Load { machine, image } => taken(load, machine, image),
@@ -97,8 +124,7 @@ fn sixteen(number: usize) -> [u8; 2] {
     u16::try_from(number).expect("at most 65,535 bytes").to_le_bytes()
 }
 
-fn run(machine: Option<&[u8]>, journal: &[u8], buffer: &[u8]) -> Vec<u8> {
-    let mut state = machine.map_or_else(fresh, State::from_bytes);
+fn run(mut state: State, journal: &[u8], buffer: &[u8]) -> Vec<u8> {
     let mut answers = buffer.to_vec();
     let (number, report) = match run_journal(&mut state, journal, &mut answers) {
         Ok(report) => (0, report),

@@ -1,12 +1,13 @@
 //! A run, a save, a load over another machine and a run, each on what ours gave before, are one run; and what was loaded is saved
-//! to the same bytes.
+//! to the same bytes, under either policy. Some images of write-back go over version 1.
 
 use second::gen::{deep, near};
-use second::{HEADER, IMAGE_BYTES, STATE_BYTES};
+use second::{Policy, HEADER, IMAGE_BYTES, STATE_BYTES};
 
-use crate::images;
 use crate::programs::{self, Program};
-use crate::task::{Item, Task, NUMBER, VERDICT};
+use crate::task::{Item, On, Task, NUMBER, VERDICT};
+use crate::versions::older;
+use crate::{images, plan};
 
 const RECORDS: usize = 600;
 /// How many records are run before the save.
@@ -63,13 +64,21 @@ pub fn trips(probe: Program, pairs: Vec<(u64, usize)>) -> Result<Vec<Trip>, Stri
     };
     let runs: Vec<Vec<[u8; 8]>> = pairs.iter().map(run).collect();
     let parts = runs.iter().zip(&pairs).map(|(records, (_, cut))| records.split_at(*cut));
-    let first = results(probe, parts.clone().map(|(first, _)| journal(None, first)))?;
+    let fresh = || pairs.iter().map(|(seed, _)| On::Fresh(policy(*seed)));
+    let first = parts.clone().zip(fresh()).map(|((first, _), on)| journal(on, first));
+    let first = results(probe, first)?;
     let saved = saved(probe, first.iter().map(|ours| machine(ours)))?;
-    let loaded = loaded(probe, &saved)?;
+    let kept = saved.iter().zip(&pairs).map(|(image, (seed, _))| match is_old(*seed) {
+        true => older(image),
+        false => image.clone(),
+    });
+    let loaded = loaded(probe, kept)?;
     let again = self::saved(probe, loaded.iter().cloned())?;
-    let rest = parts.zip(&loaded).map(|((_, rest), loaded)| journal(Some(loaded.clone()), rest));
+    let rest =
+        parts.zip(&loaded).map(|((_, rest), loaded)| journal(On::Machine(loaded.clone()), rest));
     let rest = results(probe, rest)?;
-    let whole = results(probe, runs.iter().map(|records| journal(None, records)))?;
+    let whole = runs.iter().zip(fresh()).map(|(records, on)| journal(on, records));
+    let whole = results(probe, whole)?;
     let trip = |i: usize| Trip {
         answers: [&first[i], &rest[i], &whole[i]].map(|ours| answers(ours)),
         machines: [&first[i], &loaded[i], &rest[i], &whole[i]].map(|ours| machine(ours)),
@@ -78,10 +87,19 @@ pub fn trips(probe: Program, pairs: Vec<(u64, usize)>) -> Result<Vec<Trip>, Stri
     Ok((0..pairs.len()).map(trip).collect())
 }
 
-fn journal(machine: Option<Vec<u8>>, records: &[[u8; 8]]) -> Task {
+/// Seeds by turns, and of those that are write-back the later half over version 1.
+fn policy(seed: u64) -> Policy {
+    plan::policy(seed as usize / 2)
+}
+
+fn is_old(seed: u64) -> bool {
+    seed >= 4 && policy(seed) == Policy::WriteBack
+}
+
+fn journal(on: On, records: &[[u8; 8]]) -> Task {
     let body = records.concat();
     let journal = [&HEADER, &body[..]].concat();
-    Task::Run { machine, journal, buffer: vec![0; body.len()] }
+    Task::Run { on, journal, buffer: vec![0; body.len()] }
 }
 
 /// The machine, which every result ends with.
@@ -99,10 +117,10 @@ fn saved(probe: Program, machines: impl Iterator<Item = Vec<u8>>) -> Result<Vec<
     Ok(results.iter().map(|ours| ours[NUMBER..NUMBER + IMAGE_BYTES].to_vec()).collect())
 }
 
-fn loaded(probe: Program, images: &[Vec<u8>]) -> Result<Vec<Vec<u8>>, String> {
+fn loaded(probe: Program, images: impl Iterator<Item = Vec<u8>>) -> Result<Vec<Vec<u8>>, String> {
     let mut plan = images::Plan::new();
-    let load = |image: &Vec<u8>| Task::Load { machine: plan.receiver(), image: image.clone() };
-    let results = results(probe, images.iter().map(load))?;
+    let load = |image| Task::Load { machine: plan.receiver(), image };
+    let results = results(probe, images.map(load))?;
     Ok(results.iter().map(|ours| machine(ours)).collect())
 }
 

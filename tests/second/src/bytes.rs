@@ -1,12 +1,12 @@
-//! The state as 4,754 bytes (STATE.md), both ways; every byte string is a state.
+//! The state as 4,755 bytes (STATE.md), both ways; every byte string is a state.
 
 use crate::numbers::{GuestId, Mach, Phys, Place, Virt};
-use crate::state::{fresh, Guest, Kind, Mode, Owner, Page, Pending, State};
+use crate::state::{fresh, Guest, Kind, Mode, Owner, Page, Pending, Policy, State};
 
-pub const STATE_BYTES: usize = 4754;
+pub const STATE_BYTES: usize = 4755;
 
 /// Field offsets in the order of STATE.md, and the end.
-pub const OFFSETS: [usize; 20] = [
+pub const OFFSETS: [usize; 21] = [
     0,
     64,
     128,
@@ -26,6 +26,7 @@ pub const OFFSETS: [usize; 20] = [
     4426,
     4434,
     4690,
+    4754,
     STATE_BYTES,
 ];
 
@@ -86,6 +87,24 @@ impl Mode {
     }
 }
 
+impl Policy {
+    pub fn from_byte(byte: u8) -> Policy {
+        match byte {
+            0 => Policy::WriteBack,
+            1 => Policy::WriteThrough,
+            _ => Policy::Odd(byte),
+        }
+    }
+
+    pub fn byte(self) -> u8 {
+        match self {
+            Policy::WriteBack => 0,
+            Policy::WriteThrough => 1,
+            Policy::Odd(byte) => byte,
+        }
+    }
+}
+
 /// Hands out the bytes of one field after the other.
 struct Fields<'a> {
     bytes: &'a [u8],
@@ -106,7 +125,7 @@ impl<'a> Fields<'a> {
 }
 
 impl State {
-    /// Any 4,754 bytes make a state; another length is the caller's mistake.
+    /// Any 4,755 bytes make a state; another length is the caller's mistake.
     pub fn from_bytes(bytes: &[u8]) -> State {
         assert_eq!(bytes.len(), STATE_BYTES, "a state has {STATE_BYTES} bytes");
         let mut fields = Fields { bytes, next: 0 };
@@ -122,6 +141,7 @@ impl State {
         for (i, value) in fields.take_words().into_iter().enumerate() {
             state.cache[i / 2].ways[i % 2].value = value;
         }
+        state.policy = Policy::from_byte(fields.take()[0]);
         state
     }
 
@@ -186,6 +206,7 @@ impl State {
         out.extend(self.tlb.iter().map(|slot| slot.page.byte()));
         out.extend(pages.iter().flat_map(|page| page.memory.to_le_bytes()));
         out.extend(self.lines().flat_map(|line| line.value.to_le_bytes()));
+        out.push(self.policy.byte());
         debug_assert_eq!(out.len(), STATE_BYTES);
         debug_assert_eq!(pages.len(), Mach::COUNT);
         out

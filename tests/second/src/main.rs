@@ -1,4 +1,4 @@
-//! `second run [FROM TO]|stream [FROM TO]|state|rules|step|cases|gen SEED COUNT PROFILE|damage SEED COUNT`
+//! `second run [FROM TO [through]]|stream [FROM TO [through]]|state [through]|rules|step|cases|gen SEED COUNT PROFILE|damage SEED COUNT`
 
 use std::fs;
 use std::io::{self, BufRead, Read, Write};
@@ -8,15 +8,21 @@ use std::process::ExitCode;
 use second::hex::{from_hex, to_hex};
 use second::journal::answer_bytes;
 use second::program::Ended;
-use second::{cases, damage, fresh, gen, program, rules, run_journal};
-use second::{step, State, Stream, STATE_BYTES};
+use second::{cases, damage, fresh_with, gen, program, rules, run_journal};
+use second::{step, Policy, Start, State, Stream, RULES, STATE_BYTES};
 
 type Outcome = Result<ExitCode, String>;
 
-/// FROM and TO name images; an empty word names none. stream runs a journal as it arrives, however long it is; gen writes one.
+/// FROM and TO name images; an empty word names none. through asks for write-through. stream runs a journal as it arrives, however
+/// long it is; gen writes one.
 const USAGE: &str =
-    "usage: second run [FROM TO] | stream [FROM TO] | state | rules | step | cases \
-                     | gen SEED COUNT deep|near|noise | damage SEED COUNT";
+    "usage: second run [FROM TO [through]] | stream [FROM TO [through]] | state [through] | rules \
+                     | step | cases | gen SEED COUNT deep|near|noise | damage SEED COUNT";
+
+const THROUGH: &str = "through";
+
+/// What the program says where it is not used as it should be.
+const WRONG_USE: &str = "wrong use: the image is write-back";
 
 /// How much of a journal that arrives is read at a time, so that its lines come soon.
 const PIECE: usize = 4096;
@@ -25,11 +31,14 @@ fn main() -> ExitCode {
     let words: Vec<String> = std::env::args().skip(1).collect();
     let words: Vec<&str> = words.iter().map(String::as_str).collect();
     let outcome = match words[..] {
-        ["run"] => run("", ""),
-        ["run", from, to] => run(from, to),
-        ["stream"] => stream("", ""),
-        ["stream", from, to] => stream(from, to),
-        ["state"] => state(),
+        ["run"] => run("", "", false),
+        ["run", from, to] => run(from, to, false),
+        ["run", from, to, THROUGH] => run(from, to, true),
+        ["stream"] => stream("", "", false),
+        ["stream", from, to] => stream(from, to, false),
+        ["stream", from, to, THROUGH] => stream(from, to, true),
+        ["state"] => state(false),
+        ["state", THROUGH] => state(true),
         ["rules"] => each_line(rules_line),
         ["step"] => each_line(step_line),
         ["cases"] => put(cases::cases().as_bytes()),
@@ -58,9 +67,9 @@ fn input() -> Result<Vec<u8>, String> {
     Ok(bytes)
 }
 
-fn run(from: &str, to: &str) -> Outcome {
-    let journal = input()?;
-    end(program(read_image(from)?.as_deref(), &journal), to)
+fn run(from: &str, to: &str, through: bool) -> Outcome {
+    let (journal, image) = (input()?, read_image(from)?);
+    end(program(Start { from: image.as_deref(), through }, &journal), to)
 }
 
 fn read_image(from: &str) -> Result<Option<Vec<u8>>, String> {
@@ -70,6 +79,9 @@ fn read_image(from: &str) -> Result<Option<Vec<u8>>, String> {
 
 /// Prints what is left to be printed, then saves.
 fn end(ended: Ended, to: &str) -> Outcome {
+    if ended == Ended::wrong_use() {
+        return Err(WRONG_USE.into());
+    }
     put(ended.text.as_bytes())?;
     if let Some(image) = ended.saved.filter(|_| !to.is_empty()) {
         keep(&image, to).map_err(|e| e.to_string())?;
@@ -78,10 +90,11 @@ fn end(ended: Ended, to: &str) -> Outcome {
 }
 
 /// The journal as it arrives.
-fn stream(from: &str, to: &str) -> Outcome {
-    match Stream::new(read_image(from)?.as_deref()) {
+fn stream(from: &str, to: &str, through: bool) -> Outcome {
+    let image = read_image(from)?;
+    match Stream::new(Start { from: image.as_deref(), through }) {
         Ok(stream) => end(arriving(stream)?, to),
-        Err(number) => end(Ended::refused(number), to),
+        Err(ended) => end(ended, to),
     }
 }
 
@@ -92,9 +105,7 @@ fn arriving(mut stream: Stream) -> Result<Ended, String> {
         let length = arrived(&mut piece)?;
         match stream.take(&piece[..length], length == 0) {
             Err(number) => return Ok(Ended::refused(number)),
-            Ok(text) if length == 0 => {
-                return Ok(Ended { text, status: 0, saved: Some(stream.image()) })
-            }
+            Ok(text) if length == 0 => return Ok(stream.ended(text)),
             Ok(text) => put(text.as_bytes())?,
         };
     }
@@ -121,9 +132,9 @@ fn keep(image: &[u8], to: &str) -> io::Result<()> {
     fs::File::open(folder.unwrap_or(Path::new(".")))?.sync_all()
 }
 
-fn state() -> Outcome {
+fn state(through: bool) -> Outcome {
     let journal = input()?;
-    let mut machine = fresh();
+    let mut machine = fresh_with(if through { Policy::WriteThrough } else { Policy::WriteBack });
     let mut answers = vec![0; answer_bytes(&journal)];
     // A refused journal leaves the fresh machine as it is.
     let _ = run_journal(&mut machine, &journal, &mut answers);
@@ -187,7 +198,7 @@ fn damaged(seed: &str, count: &str) -> Outcome {
     let lines: String = states.iter().map(|s| to_hex(&s.to_bytes()) + "\n").collect();
     put(lines.as_bytes())?;
     let alone: Vec<usize> = states.iter().filter_map(damage::broken_alone).collect();
-    for rule in 0..10 {
+    for rule in 0..RULES {
         let times = alone.iter().filter(|broken| **broken == rule).count();
         eprintln!("rule {} broken alone {times} times", rule + 1);
     }

@@ -2,10 +2,12 @@
 
 use std::fmt::Write;
 
-use crate::image::{image_of, load};
+use crate::image::image_of;
 use crate::journal::{answer_bytes, run_journal, Report};
-use crate::state::fresh;
+use crate::start::Start;
+use crate::state::State;
 
+#[derive(PartialEq, Eq, Debug)]
 pub struct Ended {
     pub text: String,
     pub status: u8,
@@ -17,14 +19,21 @@ impl Ended {
     pub fn refused(number: u8) -> Ended {
         Ended { text: format!("refused {number}\n"), status: 1, saved: None }
     }
+
+    /// Nothing is run or printed.
+    pub fn wrong_use() -> Ended {
+        Ended { text: String::new(), status: 2, saved: None }
+    }
 }
 
-/// A journal on the state that an image holds, or else on the fresh machine.
-pub fn program(from: Option<&[u8]>, journal: &[u8]) -> Ended {
-    let mut state = fresh();
+/// A whole journal, from a start.
+pub fn program(start: Start, journal: &[u8]) -> Ended {
+    start.state().map_or_else(|ended| ended, |state| run(state, journal))
+}
+
+fn run(mut state: State, journal: &[u8]) -> Ended {
     let mut answers = vec![0; answer_bytes(journal)];
-    let loaded = from.map_or(Ok(()), |image| load(&mut state, image));
-    match loaded.and_then(|()| run_journal(&mut state, journal, &mut answers)) {
+    match run_journal(&mut state, journal, &mut answers) {
         Ok(report) => {
             let text = listing(&report, &answers);
             Ended { text, status: 0, saved: Some(image_of(&state)) }
@@ -33,9 +42,9 @@ pub fn program(from: Option<&[u8]>, journal: &[u8]) -> Ended {
     }
 }
 
-/// What the program prints for its standard input, without an image.
+/// What the program prints for its standard input, with no option.
 pub fn program_output(journal: &[u8]) -> String {
-    program(None, journal).text
+    program(Start::default(), journal).text
 }
 
 fn listing(report: &Report, answers: &[u8]) -> String {

@@ -1,7 +1,9 @@
-//! The ten rules of a valid state, each judged by itself on any numbers whatever.
+//! The eleven rules of a valid state, each judged by itself on any numbers whatever.
 
 use crate::numbers::{GuestId, Mach, Phys, Place, Virt, STEALTH};
-use crate::state::{Guest, Kind, Line, Mode, Owner, Page, State};
+use crate::state::{Guest, Kind, Line, Mode, Owner, Page, Policy, State};
+
+pub const RULES: usize = 11;
 
 /// What one pass over all entries finds.
 struct Survey {
@@ -14,7 +16,7 @@ struct Survey {
 }
 
 /// Rule n at index n - 1; true where it holds.
-pub fn rules(s: &State) -> [bool; 10] {
+pub fn rules(s: &State) -> [bool; RULES] {
     let survey = Survey::of(s);
     [
         rule1(s),
@@ -27,6 +29,7 @@ pub fn rules(s: &State) -> [bool; 10] {
         rule8(s),
         rule9(s),
         rule10(s, &survey),
+        rule11(s),
     ]
 }
 
@@ -189,6 +192,7 @@ fn rule10(s: &State, survey: &Survey) -> bool {
     survey.entries_in_range
         && s.active < GuestId::COUNT as u8
         && !matches!(s.mode, Mode::Odd(_))
+        && !matches!(s.policy, Policy::Odd(_))
         && s.pages.iter().all(page_in_range)
         && s.guests.iter().all(guest_in_range)
         && s.lines().all(line_in_range)
@@ -217,4 +221,8 @@ fn place_in_range(address: u8, page: Place) -> bool {
         Place::At(_) => Virt::new(address).is_some(),
         Place::Nowhere(_) => false,
     }
+}
+
+fn rule11(s: &State) -> bool {
+    !s.writes_through() || s.lines().all(|line| s.memory_has(line))
 }

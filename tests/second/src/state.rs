@@ -29,6 +29,15 @@ pub enum Mode {
     Odd(u8),
 }
 
+/// What a write to a line does to memory.
+#[derive(Clone, Copy, PartialEq, Eq, Debug)]
+pub enum Policy {
+    WriteBack,
+    WriteThrough,
+    /// A number that is no policy.
+    Odd(u8),
+}
+
 #[derive(Clone, PartialEq, Eq, Debug)]
 pub struct Page {
     pub owner: Owner,
@@ -85,6 +94,11 @@ pub struct State {
     pub mode: Mode,
     pub cache: [Set; 8],
     pub tlb: [Slot; 8],
+    pub policy: Policy,
+}
+
+impl Policy {
+    pub const BOTH: [Policy; 2] = [Policy::WriteBack, Policy::WriteThrough];
 }
 
 impl Pending {
@@ -208,11 +222,25 @@ impl State {
     pub fn lines(&self) -> impl Iterator<Item = &Line> {
         self.cache.iter().flat_map(|set| set.ways.iter())
     }
+
+    pub fn writes_through(&self) -> bool {
+        self.policy == Policy::WriteThrough
+    }
+
+    /// Whether the line's value is its page's in memory; one that leads nowhere has no page.
+    pub fn memory_has(&self, line: &Line) -> bool {
+        line.page.page().is_none_or(|page| self.page(page).memory == line.value)
+    }
 }
 
 fn row_addresses(table: &Page, page: Mach) -> u64 {
     let hits = Virt::all().filter(|va| table.entries[va.index()] == Place::At(page));
     hits.fold(0, |all, va| all | va.bit())
+}
+
+/// The fresh machine of a policy, from which nothing else is different.
+pub fn fresh_with(policy: Policy) -> State {
+    State { policy, ..fresh() }
 }
 
 /// The fresh machine.
@@ -225,6 +253,7 @@ pub fn fresh() -> State {
         mode: Mode::Running,
         cache: [Set::EMPTY; 8],
         tlb: [Slot::EMPTY; 8],
+        policy: Policy::WriteBack,
     };
     for page in Mach::all() {
         match GuestId::new(page.byte()) {

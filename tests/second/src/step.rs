@@ -68,7 +68,11 @@ fn access(state: &mut State, table: Mach, va: Virt, write: Option<u32>) -> u32 {
     if let Some(value) = write {
         *cell = value;
     }
-    *cell
+    let held = *cell;
+    if write.is_some() && state.writes_through() {
+        state.page_mut(page).memory = held;
+    }
+    held
 }
 
 fn new(state: &mut State, guest: GuestId, table: Mach, va: Virt, pa: Phys) {

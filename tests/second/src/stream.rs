@@ -2,10 +2,11 @@
 
 use std::fmt::Write;
 
-use crate::image::{image_of, load};
+use crate::image::image_of;
 use crate::pieces::{begin, feed, Kept, KEPT};
 use crate::program::Ended;
-use crate::state::{fresh, State};
+use crate::start::Start;
+use crate::state::State;
 
 const WHOLE_HEADER: u8 = 8;
 
@@ -18,10 +19,9 @@ pub struct Stream {
 }
 
 impl Stream {
-    /// On the state that an image holds, or else on the fresh machine; Err is the image's refusal.
-    pub fn new(from: Option<&[u8]>) -> Result<Stream, u8> {
-        let (mut state, mut kept) = (fresh(), [0; KEPT]);
-        from.map_or(Ok(()), |image| load(&mut state, image))?;
+    /// Err is how the program ends before any of the journal is read.
+    pub fn new(start: Start) -> Result<Stream, Ended> {
+        let (state, mut kept) = (start.state()?, [0; KEPT]);
         begin(&mut kept);
         Ok(Stream { state, kept, answers: Vec::new(), accepted: 0, refused: 0 })
     }
@@ -67,19 +67,20 @@ impl Stream {
         let _ = writeln!(text, "done {} refused {}", self.accepted, self.refused);
     }
 
-    pub fn image(&self) -> Vec<u8> {
-        image_of(&self.state)
+    /// With the last of its text.
+    pub fn ended(&self, text: String) -> Ended {
+        Ended { text, status: 0, saved: Some(image_of(&self.state)) }
     }
 }
 
-/// A journal that comes in pieces of so many bytes, on the state of an image or on the fresh machine.
-pub fn streamed(from: Option<&[u8]>, journal: &[u8], piece: usize) -> Ended {
+/// A journal that comes in pieces of so many bytes, from a start.
+pub fn streamed(start: Start, journal: &[u8], piece: usize) -> Ended {
     let ended = || {
-        let mut stream = Stream::new(from)?;
+        let mut stream = Stream::new(start)?;
         let texts: Result<String, u8> =
             journal.chunks(piece).map(|part| stream.take(part, false)).collect();
-        let text = texts? + &stream.take(&[], true)?;
-        Ok(Ended { text, status: 0, saved: Some(stream.image()) })
+        let text = texts.and_then(|text| Ok(text + &stream.take(&[], true)?));
+        text.map(|text| stream.ended(text)).map_err(Ended::refused)
     };
-    ended().unwrap_or_else(Ended::refused)
+    ended().unwrap_or_else(|ended| ended)
 }

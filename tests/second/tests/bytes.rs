@@ -4,7 +4,8 @@ mod support;
 
 use second::hex::{from_hex, to_hex};
 use second::rng::Rng;
-use second::{fresh, rules, step, valid, State, STATE_BYTES};
+use second::{fresh, fresh_with, rules, step, valid, Policy, State, STATE_BYTES};
+use support::{after_nine, after_nine_on, Machine};
 
 #[test]
 fn random_bytes_come_back() {
@@ -42,13 +43,18 @@ fn the_fresh_machine_in_bytes() {
     }
     bytes[4353..4360].fill(0xFF);
     bytes[4377] = 1;
+    assert_eq!(bytes.len(), 4755);
     assert!(fresh().to_bytes() == bytes);
     assert!(valid(&fresh()));
+    bytes[4754] = 1;
+    let through = fresh_with(Policy::WriteThrough);
+    assert!(through.to_bytes() == bytes && State::from_bytes(&bytes) == through);
+    assert!(valid(&through));
 }
 
 #[test]
 fn the_nine_records_in_bytes() {
-    let bytes = support::after_nine().0.to_bytes();
+    let bytes = after_nine().0.to_bytes();
     assert_eq!((bytes[8], bytes[64 + 8], bytes[128 + 8]), (2, 1, 1));
     assert_eq!(bytes[192], 9);
     assert_eq!(bytes[4288 + 1], 9);
@@ -57,6 +63,22 @@ fn the_nine_records_in_bytes() {
     assert_eq!((bytes[4418], bytes[4426]), (0, 9));
     assert_eq!(bytes[4434 + 32..4434 + 36], [0; 4]);
     assert_eq!(bytes[4690..4694], [0x2C, 1, 0, 0]);
+    assert_eq!(bytes[4754], 0);
+    let mut through = bytes;
+    through[4434 + 32..4434 + 36].copy_from_slice(&[0x2C, 1, 0, 0]);
+    through[4754] = 1;
+    assert!(after_nine_on(Machine::started(Policy::WriteThrough)).0.to_bytes() == through);
+}
+
+#[test]
+fn policies_as_bytes() {
+    for byte in 0..=255 {
+        let policy = Policy::from_byte(byte);
+        assert_eq!(policy.byte(), byte);
+        assert_eq!(policy == Policy::WriteBack, byte == 0);
+        assert_eq!(policy == Policy::WriteThrough, byte == 1);
+        assert_eq!(fresh_with(policy).to_bytes()[4754], byte);
+    }
 }
 
 #[test]

@@ -2,7 +2,7 @@
 
 mod support;
 
-use second::{damage, rules, valid, State};
+use second::{damage, rules, valid, Policy, State, RULES};
 use support::Machine;
 
 const OWNER: usize = 0;
@@ -24,6 +24,7 @@ const SLOT: usize = 4418;
 const SLOT_PAGE: usize = 4426;
 const MEMORY: usize = 4434;
 const LINE_VALUE: usize = 4690;
+const POLICY: usize = 4754;
 
 fn entry(table: usize, va: usize) -> usize {
     ENTRY + 64 * table + va
@@ -31,8 +32,8 @@ fn entry(table: usize, va: usize) -> usize {
 
 /// Guest 0: page 8 at 0 (dirty line), 9 at 7, 10 at 1 and 9, table 11, 12 unmapped.
 /// Guest 1: page 13 at 7, 14 at 8 (line). Guest 0 runs, with a TLB entry for 0.
-fn base() -> Vec<u8> {
-    let mut m = Machine::fresh();
+fn base(policy: Policy) -> Vec<u8> {
+    let mut m = Machine::started(policy);
     for (pa, kind) in [(1, 0), (2, 0), (3, 0), (4, 1), (5, 0)] {
         m.served(4, pa, kind);
     }
@@ -53,15 +54,24 @@ fn base() -> Vec<u8> {
     m.0.to_bytes()
 }
 
-/// Changes bytes of the base; exactly the named rules must be broken.
+/// Changes bytes of the write-back base; exactly the named rules must be broken.
 fn breaks(changes: &[(usize, u8)], expected: &[usize]) {
-    let mut bytes = base();
+    breaks_on(Policy::WriteBack, changes, expected);
+}
+
+/// The same of the base under write-through, where the line of 0 is not dirty.
+fn breaks_through(changes: &[(usize, u8)], expected: &[usize]) {
+    breaks_on(Policy::WriteThrough, changes, expected);
+}
+
+fn breaks_on(policy: Policy, changes: &[(usize, u8)], expected: &[usize]) {
+    let mut bytes = base(policy);
     for (at, byte) in changes {
         bytes[*at] = *byte;
     }
     let state = State::from_bytes(&bytes);
     let holds = rules(&state);
-    let broken: Vec<usize> = (1..=10).filter(|rule| !holds[rule - 1]).collect();
+    let broken: Vec<usize> = (1..=RULES).filter(|rule| !holds[rule - 1]).collect();
     assert_eq!(broken, expected, "{changes:?}");
     assert_eq!(valid(&state), expected.is_empty());
 }
@@ -255,14 +265,99 @@ fn rule_10_ranges_and_empty_places() {
 }
 
 #[test]
+fn rule_10_policies() {
+    for byte in 2..=255 {
+        // not write-through, so that the dirty line is nothing to rule 11
+        breaks(&[(POLICY, byte)], &[10]);
+        breaks_through(&[(POLICY, byte)], &[10]);
+        breaks_through(&[(POLICY, byte), (LINE_VALUE, 6)], &[10]);
+    }
+}
+
+#[test]
+fn rule_11_values() {
+    breaks(&[(LINE_VALUE, 6)], &[]);
+    breaks(&[(POLICY, 1)], &[11]);
+    breaks(&[(POLICY, 1), (MEMORY + 4 * 8, 5)], &[]);
+    breaks(&[(POLICY, 1), (LINE_VALUE, 0)], &[]);
+    breaks_through(&[], &[]);
+    breaks_through(&[(POLICY, 0)], &[]);
+    breaks_through(&[(POLICY, 0), (LINE_VALUE, 6)], &[]);
+    for byte in 0..4 {
+        breaks_through(&[(LINE_VALUE + byte, 6)], &[11]);
+        breaks_through(&[(LINE_VALUE + 4 + byte, 6)], &[11]);
+        breaks_through(&[(LINE_VALUE + 4 * 14 + byte, 6)], &[11]);
+        breaks_through(&[(MEMORY + 4 * 8 + byte, 6)], &[11]);
+        breaks_through(&[(MEMORY + 4 * 14 + byte, 6)], &[11]);
+        breaks_through(&[(MEMORY + 4 * 9 + byte, 6)], &[11]);
+        breaks_through(&[(LINE_VALUE + byte, 6), (MEMORY + 4 * 8 + byte, 6)], &[]);
+    }
+    // pages that have no line
+    breaks_through(&[(MEMORY + 4 * 10, 6)], &[]);
+    breaks_through(&[(MEMORY + 4 * 12, 6)], &[]);
+    breaks_through(&[(MEMORY + 4 * 13, 6)], &[]);
+}
+
+#[test]
+fn rule_11_lines_that_lead_nowhere() {
+    for byte in [65, 66, 128, 255] {
+        breaks_through(&[(LINE_PAGE + 1, byte)], &[7, 10]);
+        breaks_through(&[(LINE_PAGE + 1, byte), (LINE_VALUE + 4, 6)], &[7, 10]);
+    }
+    // an empty way, whatever it holds
+    breaks_through(&[(LINE_VALUE + 8, 6)], &[10]);
+    breaks_through(&[(LINE_PAGE + 1, 0), (LINE_VALUE + 4, 6)], &[10]);
+    breaks_through(&[(LINE + 2, 64), (LINE_VALUE + 8, 6)], &[10]);
+}
+
+#[test]
+fn rule_11_asks_no_more() {
+    // an address that leads nowhere, and one that no table maps
+    breaks_through(&[(LINE, 64)], &[7, 10]);
+    breaks_through(&[(LINE, 64), (LINE_VALUE, 6)], &[7, 10, 11]);
+    breaks_through(&[(LINE, 16), (LINE_VALUE, 6)], &[7, 11]);
+    // a page not cacheable, a table, the host's, a page without owner
+    breaks_through(&[(MARK + 8, 0)], &[7]);
+    breaks_through(&[(MARK + 8, 0), (LINE_VALUE, 6)], &[7, 11]);
+    for page in [0, 4, 11, 20, 63] {
+        let line = [(LINE + 2, 1), (LINE_PAGE + 2, page + 1)];
+        breaks_through(&line, &[7]);
+        breaks_through(&[&line[..], &[(LINE_VALUE + 8, 1)]].concat(), &[7, 11]);
+    }
+    // of two lines of one page each
+    let twice = [(LINE + 1, 0), (LINE_PAGE + 1, 9)];
+    breaks_through(&[&twice[..], &[(LINE_VALUE + 4, 5)]].concat(), &[7]);
+    breaks_through(&twice, &[7, 11]);
+    breaks_through(&[&twice[..], &[(LINE_VALUE + 4, 5), (LINE_VALUE, 6)]].concat(), &[7, 11]);
+    // with others
+    breaks_through(&[(MODE, 2), (LINE_VALUE, 6)], &[10, 11]);
+    breaks_through(&[(HISTORY + 7, 1), (MEMORY + 4 * 8, 0)], &[9, 11]);
+}
+
+#[test]
 fn each_rule_is_broken_alone_by_the_damager() {
-    let mut alone = [0; 10];
+    let mut alone = [0; RULES];
     for state in damage::states(1, 300) {
         if let Some(rule) = damage::broken_alone(&state) {
             alone[rule] += 1;
         }
     }
     assert!(alone.iter().all(|times| *times > 0), "{alone:?}");
+}
+
+/// Rule 11 is also broken with others, and others without it under write-through.
+#[test]
+fn the_damager_knows_both_policies() {
+    let states = damage::states(2, 600);
+    let broken = |state: &State| rules(state).iter().filter(|holds| !**holds).count();
+    let through: Vec<&State> = states.iter().filter(|state| state.writes_through()).collect();
+    let eleven = |state: &&&State| !rules(state)[10];
+    assert!((200..400).contains(&through.len()), "{}", through.len());
+    assert!(through.iter().filter(eleven).any(|state| broken(state) > 1));
+    let others = through.iter().filter_map(|state| damage::broken_alone(state));
+    assert_eq!(others.collect::<std::collections::BTreeSet<_>>(), (0..RULES).collect());
+    let odd = states.iter().filter(|state| matches!(state.policy, Policy::Odd(_)));
+    assert!(odd.filter(|state| damage::broken_alone(state) == Some(9)).count() > 5);
 }
 
 #[test]

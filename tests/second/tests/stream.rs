@@ -5,7 +5,9 @@ mod support;
 use std::io::{BufRead, BufReader, Read, Write};
 
 use second::gen::journal as generated;
-use second::{fresh, image_of, program, program_output, streamed, HEADER, IMAGE_BYTES};
+use second::program::Ended;
+use second::{fresh, image_of, old_image_of, program, program_output, streamed};
+use second::{Start, HEADER, IMAGE_BYTES};
 use support::binary::{printed, second, started, Room};
 use support::{after_nine, journal, nine, silent_journal};
 
@@ -14,9 +16,9 @@ fn the_lines_are_those_of_a_run() {
     for (i, profile) in second::gen::PROFILES.into_iter().enumerate() {
         let journal = generated(i as u64, 300, profile).unwrap();
         for length in (0..40).chain([1234, journal.len()]) {
-            let whole = program(None, &journal[..length]);
+            let whole = program(Start::default(), &journal[..length]);
             for piece in [1, 7, 8, 9, 500, 5000] {
-                let ended = streamed(None, &journal[..length], piece);
+                let ended = streamed(Start::default(), &journal[..length], piece);
                 assert_eq!(ended.text, whole.text, "{profile}, {length} bytes by {piece}");
                 assert!(ended.status == whole.status && ended.saved == whole.saved);
             }
@@ -31,7 +33,7 @@ fn wrong_headers_and_short_ones() {
             let mut journal = silent_journal(9, 0);
             journal[at] ^= 1;
             for bytes in [&journal[..], &journal[..at + 1], &HEADER[..at]] {
-                let ended = streamed(None, bytes, piece);
+                let ended = streamed(Start::default(), bytes, piece);
                 assert_eq!((&ended.text[..], ended.status), ("refused 13\n", 1));
                 assert_eq!(ended.saved, None);
             }
@@ -44,7 +46,7 @@ fn more_records_than_a_whole_journal_may_have() {
     let journal = generated(4, 20_000, "deep").unwrap();
     assert_eq!(program_output(&journal), "refused 14\n");
     let text = printed(&["stream"], &journal);
-    assert_eq!(text, streamed(None, &journal, 1000).text);
+    assert_eq!(text, streamed(Start::default(), &journal, 1000).text);
     let lines: Vec<&str> = text.lines().collect();
     assert_eq!((lines[0], lines.len()), ("RPJ 1", 20_002));
     let number = |line: &str| line.split(' ').next().unwrap().parse();
@@ -101,7 +103,7 @@ fn from_an_image_and_to_one() {
     let read = journal(&[[1, 0, 0, 0, 0, 0, 0, 0], [11, 0, 0, 0, 0, 0, 0, 0]]);
     let text = "RPJ 1\n1 0 300\n2 0 0\ndone 2 refused 0\n";
     assert_eq!(printed(&["stream", &kept, &other], &read), text);
-    assert_eq!(std::fs::read(&other).unwrap(), program(Some(&image), &read).saved.unwrap());
+    assert_eq!(std::fs::read(&other).unwrap(), program(Start::image(&image), &read).saved.unwrap());
     // nothing is saved of a journal that is refused, nor where the image is
     std::fs::write(&other, &image[..IMAGE_BYTES - 1]).unwrap();
     for (from, journal, text) in
@@ -119,7 +121,7 @@ fn from_an_image_and_to_one() {
 fn an_image_is_judged_before_the_input_is_read() {
     let mut broken = fresh();
     broken.active = 4;
-    let ended = streamed(Some(&image_of(&broken)), b"none", 4);
+    let ended = streamed(Start::image(&image_of(&broken)), b"none", 4);
     assert_eq!((&ended.text[..], ended.status, ended.saved), ("refused 1\n", 1, None));
     let room = Room::new("judged");
     let kept = room.file("kept");
@@ -127,4 +129,37 @@ fn an_image_is_judged_before_the_input_is_read() {
     let mut child = started(&["stream", &kept, ""]);
     let _open = child.stdin.take();
     assert_eq!(child.wait().unwrap().code(), Some(1));
+}
+
+#[test]
+fn under_write_through_the_lines_are_the_same() {
+    for (i, profile) in second::gen::PROFILES.into_iter().enumerate() {
+        let journal = generated(i as u64, 300, profile).unwrap();
+        let (back, start) = (program(Start::default(), &journal), Start::default().through());
+        let whole = program(start, &journal);
+        assert!(whole.text == back.text && whole.saved != back.saved);
+        for piece in [1, 9, 500] {
+            assert!(streamed(start, &journal, piece) == whole);
+            // and from there on, where the image has the policy
+            let from = Start::image(whole.saved.as_deref().unwrap());
+            let on = program(from, &journal);
+            assert!(streamed(from.through(), &journal, piece) == on);
+        }
+    }
+}
+
+#[test]
+fn wrong_use_is_seen_before_the_input_is_read() {
+    let image = image_of(&after_nine().0);
+    for bytes in [&journal(&nine())[..], b"none", b""] {
+        let start = Start::image(&image).through();
+        assert_eq!(streamed(start, bytes, 4), Ended::wrong_use());
+    }
+    let room = Room::new("unread");
+    let kept = room.file("kept");
+    std::fs::write(&kept, old_image_of(&fresh())).unwrap();
+    let mut child = started(&["stream", &kept, &kept, "through"]);
+    let _open = child.stdin.take();
+    assert_eq!(child.wait().unwrap().code(), Some(2));
+    assert!(std::fs::read(&kept).unwrap() == old_image_of(&fresh()));
 }

@@ -2,7 +2,7 @@
 
 use std::ops::Range;
 
-use ration::{journal, Action, Call, Guest, Host, Pa, PinKind};
+use ration::{journal, Action, Call, Guest, Host, Pa, PinKind, Va};
 
 use crate::engine::sizes::{GUESTS, PHYSICALS, RECORD_LIMIT};
 
@@ -23,24 +23,38 @@ const LAST: Guest = Guest(GUESTS as u8 - 1);
 /// A guest's physical addresses but that of its first table.
 const PLACES: Range<u8> = 1..PHYSICALS as u8;
 
-/// The one at which the last guest's page is pinned and unpinned.
+/// The one at which the last guest's page is pinned and unpinned, and where that page is written and read.
 const PLACE: Pa = Pa(PLACES.end - 1);
+const ADDRESS: Va = Va(0);
+
+/// Each write changes the value.
+const WRITES_AND_READS: [Action; 4] = [
+    Action::Write(ADDRESS, 1),
+    Action::Read(ADDRESS),
+    Action::Write(ADDRESS, 2),
+    Action::Read(ADDRESS),
+];
 
 pub fn all() -> Vec<Case> {
     let free = Host::fresh().free_pages() as usize;
-    let case = |what, pages, timed: Vec<Action>| Case {
+    let case = |what, before: Vec<Action>, timed: Vec<Action>| Case {
         what,
-        before: journal(&taken(pages)),
+        before: journal(&before),
         timed: journal(&timed),
     };
     vec![
-        case("pin and unpin, the low pages free", 0, pins_and_unpins()),
+        case("pin and unpin, the low pages free", taken(0), pins_and_unpins()),
         case(
             "pin and unpin, the low pages taken: the last alone is free",
-            free - 1,
+            taken(free - 1),
             pins_and_unpins(),
         ),
-        case("pin, every page taken: refused with 11", free, refused_pins()),
+        case("pin, every page taken: refused with 11", taken(free), refused_pins()),
+        case(
+            "write and read, the page in the cache",
+            written(),
+            WRITES_AND_READS.repeat(RECORDS / WRITES_AND_READS.len()),
+        ),
     ]
 }
 
@@ -56,6 +70,13 @@ fn taken(pages: usize) -> Vec<Action> {
         }
     }
     actions
+}
+
+/// The last guest runs, and has written a page.
+fn written() -> Vec<Action> {
+    let call = Call::New(ADDRESS, PLACE);
+    let map = [Action::Hcall(call), Action::New(ADDRESS, PLACE), Action::Chmod];
+    [taken(0), pin(PLACE).into(), map.into(), WRITES_AND_READS.into()].concat()
 }
 
 fn pin(pa: Pa) -> [Action; 3] {

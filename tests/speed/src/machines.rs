@@ -1,6 +1,6 @@
 //! What is measured: hosts that run journals.
 
-use ration::{Host, Refusal, Report, SIZE};
+use ration::{Host, Refusal, Report, WritePolicy, SIZE};
 
 use crate::engine::{BitByBit, Engine, Search, TrailingZeros};
 
@@ -34,10 +34,10 @@ impl<S: Search> Machine for Engine<S> {
 /// A machine with its name; the proved one is the first.
 pub type Named = (&'static str, Box<dyn Machine>);
 
-pub fn fresh() -> Vec<Named> {
+pub fn fresh_with(policy: WritePolicy) -> Vec<Named> {
     vec![
-        ("proved machine", Box::new(Host::fresh())),
-        ("engine, bit by bit", Box::new(Engine::<BitByBit>::fresh())),
-        ("engine, trailing zeros", Box::new(Engine::<TrailingZeros>::fresh())),
+        ("proved machine", Box::new(Host::fresh_with(policy))),
+        ("engine, bit by bit", Box::new(Engine::<BitByBit>::fresh_with(policy))),
+        ("engine, trailing zeros", Box::new(Engine::<TrailingZeros>::fresh_with(policy))),
     ]
 }

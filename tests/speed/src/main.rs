@@ -3,7 +3,7 @@
 
 use std::process::ExitCode;
 
-use ration::{journal, Host, HEADER, RECORD};
+use ration::{journal, Host, WritePolicy, HEADER, RECORD};
 use speed::cases::{self, Case, RECORDS};
 use speed::clock::{side_by_side, Timed, Times, ROUNDS};
 use speed::machines::{self, Named};
@@ -41,14 +41,21 @@ fn measure(cases: &[Case]) -> Result<(), String> {
     Ok(())
 }
 
-/// The case's journal on each machine, where they do the same; on the proved one a journal without a record, which says what a run
-/// costs before its first one, nearly all of it the test of validity; and there the journal in parts.
-fn prepare(case: &Case) -> Result<Vec<Timed>, String> {
-    let mut machines = machines::fresh();
+/// The machines of a policy where the case's journal starts, and is timed: it is run once, and they must do the same.
+fn started(case: &Case, policy: WritePolicy) -> Result<Vec<Named>, String> {
+    let mut machines = machines::fresh_with(policy);
     for journal in [&case.before, &case.timed] {
         run_all(&mut machines, journal, journal.len())
-            .map_err(|what| format!("{}: {what}", case.what))?;
+            .map_err(|what| format!("{}, {policy}: {what}", case.what))?;
     }
+    Ok(machines)
+}
+
+/// The case's journal on each machine, with write-back; on the proved one a journal without a record, which says what a run costs
+/// before its first one, nearly all of it the test of validity; and there the journal in parts, and with write-through.
+fn prepare(case: &Case) -> Result<Vec<Timed>, String> {
+    let [machines, others] = WritePolicy::ALL.map(|policy| started(case, policy));
+    let (machines, (_, through)) = (machines?, others?.swap_remove(0));
     let start = Host::from_bytes(machines[0].1.bytes());
     let timed = |name, machine, journal: &[u8]| Timed {
         case: case.what,
@@ -59,6 +66,7 @@ fn prepare(case: &Case) -> Result<Vec<Timed>, String> {
     let runs = machines.into_iter().map(|(name, machine)| timed(name, machine, &case.timed));
     let mut all: Vec<Timed> = runs.collect();
     all.insert(1, timed("  without a record", Box::new(start.clone()), &journal(&[])));
+    all.insert(2, timed("  with write-through", through, &case.timed));
     for (name, machine) in in_parts(case, &start)?.into_iter().skip(1).rev() {
         all.insert(2, timed(name, machine, &case.timed));
     }

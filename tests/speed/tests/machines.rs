@@ -1,26 +1,34 @@
-//! The engines do what the proved machine does; what is compared shows where one does not; and the cases are what they are called.
+//! The engines do what the proved machine does, under each policy; what is compared shows where one does not; and the cases are what they are called.
 
-use ration::{Host, Refusal, Report, ANSWER, HEADER, RECORD, SIZE};
+use ration::{Host, Refusal, Report, WritePolicy, ANSWER, HEADER, RECORD, SIZE};
 use second::gen;
 use speed::cases::{self, RECORDS};
 use speed::engine::{Engine, Search, TrailingZeros};
-use speed::machines::{fresh, Machine, Named};
+use speed::machines::{fresh_with, Machine, Named};
 use speed::same::run_all;
 
 /// The byte of the last physical address of the last guest: docs/STATE.md, the end of field 4.
 const PINNED: usize = 4352 - 1;
 
+/// On fresh machines of each policy.
+fn under_each(run: impl Fn(&mut [Named]) -> Result<(), String>) -> Result<(), String> {
+    WritePolicy::ALL.into_iter().try_for_each(|policy| {
+        run(&mut fresh_with(policy)).map_err(|what| format!("{policy}: {what}"))
+    })
+}
+
 fn same(journal: &[u8], room: usize) -> Result<(), String> {
-    run_all(&mut fresh(), journal, room)
+    under_each(|machines| run_all(machines, journal, room))
 }
 
 /// The journal's records as journals of so many each, one after another.
 fn in_pieces(journal: &[u8], records: usize) -> Result<(), String> {
-    let mut machines = fresh();
     let (header, body) = journal.split_at(HEADER);
-    body.chunks(RECORD * records).try_for_each(|part| {
-        let piece = [header, part].concat();
-        run_all(&mut machines, &piece, piece.len())
+    under_each(|machines| {
+        body.chunks(RECORD * records).try_for_each(|part| {
+            let piece = [header, part].concat();
+            run_all(machines, &piece, piece.len())
+        })
     })
 }
 
@@ -93,8 +101,10 @@ fn seen(wrong: impl Machine + 'static) -> String {
 
 #[test]
 fn what_differs_is_seen() {
-    assert_eq!(seen(Engine::<Highest>::fresh()), "wrong: not the first machine's state");
-    let spoiled = |place| seen(Spoiled { engine: Engine::fresh(), place });
+    let [back, through] = WritePolicy::ALL;
+    assert_eq!(seen(Engine::<Highest>::fresh_with(back)), "wrong: not the first machine's state");
+    assert_eq!(seen(Host::fresh_with(through)), "wrong: not the first machine's state");
+    let spoiled = |place| seen(Spoiled { engine: Engine::fresh_with(back), place });
     assert_eq!(spoiled(None), "wrong: not the first machine's report");
     for place in 0..=2 * ANSWER {
         assert_eq!(spoiled(Some(place)), "wrong: not the first machine's answers");
@@ -104,7 +114,7 @@ fn what_differs_is_seen() {
 #[test]
 fn cases_are_what_they_are_called() {
     // in numbers, as docs/HOST.md has them: free pages at the start, records accepted, and the page that is pinned, plus one
-    let expected = [(56, 4096, 9), (1, 4096, 64), (0, 3, 0)];
+    let expected = [(56, 4096, 9), (1, 4096, 64), (0, 3, 0), (55, 4096, 9)];
     let cases = cases::all();
     assert_eq!(cases.len(), expected.len());
     for (case, (free, accepted, lead)) in cases.iter().zip(expected) {
@@ -118,7 +128,7 @@ fn cases_are_what_they_are_called() {
         let refusals = answers.chunks_exact(ANSWER).filter(|answer| answer[0] == 11).count();
         assert_eq!(refusals as u32, report.refused, "{}", case.what);
         assert_eq!(host, start, "{}", case.what);
-        // hcall and pin alone
+        // hcall and pin alone, or a write and a read
         host.run(&case.timed[..HEADER + 2 * RECORD], &mut answers).unwrap();
         assert_eq!(host.bytes()[PINNED], lead, "{}", case.what);
     }

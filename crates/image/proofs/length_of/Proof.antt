@@ -18,10 +18,11 @@ array-read-result c = search needs
 returns : tie.Need-returns
 returns c = search needs
 
-past : (v : ℕ) → 2 ≤ v → 0 ≡ at lengths v
+past : (v : ℕ) → 3 ≤ v → 0 ≡ at lengths v
 past zero h = absurd (omega arith)
 past (suc zero) h = absurd (omega arith)
-past (suc (suc v)) h = refl
+past (suc (suc zero)) h = absurd (omega arith)
+past (suc (suc (suc v))) h = refl
 
 returns-2 : tie.Need-returns-2
 returns-2 c = past (c .before .args .version) (omega arith)

@@ -1,7 +1,7 @@
 -- Its form, then the state that it holds.
 -- Assumes nothing.
 use Rattle.host.specs.View.{view}
-use Rattle.image.proofs.Promised.{image-long, loads-other, loads-invalid, loads-valid}
+use Rattle.image.proofs.Promised.{is-one, loads-other, loads-invalid, loads-valid}
 use borrow.Author.Needs.{needs}
 use Rattle.image.proofs.load.Statement.{statement}
 use Rattle.image.proofs.load.Tie as tie
@@ -12,7 +12,7 @@ is-image-requires c κs = search needs
 take-requires : tie.Need-take-requires
 take-requires c κs =
     let b = c .before in
-    image-long (b .before .before .before .args .image .now) (b .before .is-image .ensures) (b .if1 .taken)
+    is-one (b .before .before .before .args .image .now) (b .before .is-image .ensures) (b .if1 .taken)
 
 valid-requires : tie.Need-valid-requires
 valid-requires c κs = search needs
@@ -20,7 +20,7 @@ valid-requires c κs = search needs
 take-requires-2 : tie.Need-take-requires-2
 take-requires-2 c κs =
     let b = c .before .before .before .before .before .before in
-    image-long (b .before .before .before .args .image .now) (b .before .is-image .ensures) (b .if1 .taken)
+    is-one (b .before .before .before .args .image .now) (b .before .is-image .ensures) (b .if1 .taken)
 
 returns : tie.Need-returns
 returns c =

@@ -1,7 +1,7 @@
 -- Its form alone decides.
 -- Assumes nothing.
 use Rattle.host.specs.View.{view}
-use Rattle.image.proofs.Promised.{image-long, opens-other, opens-image}
+use Rattle.image.proofs.Promised.{is-one, opens-other, opens-image}
 use borrow.Author.Needs.{needs}
 use Rattle.image.proofs.open.Statement.{statement}
 use Rattle.image.proofs.open.Tie as tie
@@ -12,7 +12,7 @@ is-image-requires c κs = search needs
 take-requires : tie.Need-take-requires
 take-requires c κs =
     let b = c .before in
-    image-long (b .before .before .before .args .image .now) (b .before .is-image .ensures) (b .if1 .taken)
+    is-one (b .before .before .before .args .image .now) (b .before .is-image .ensures) (b .if1 .taken)
 
 returns : tie.Need-returns
 returns c =

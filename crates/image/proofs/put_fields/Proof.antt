@@ -16,7 +16,7 @@ abbrev μ-loop : tie.MeasureT-loop
 μ-loop out₀ s i₀ out i = bytes - i
 
 loop-holds : tie.Need-loop-holds Inv-loop μ-loop
-loop-holds c = (omega arith, record { image = c .pre .0; same = λ j h. absurd (omega arith) })
+loop-holds c = (omega arith, record { begun = c .pre .0; same = λ j h. absurd (omega arith) })
 
 shared-slice-read-out : tie.Need-shared-slice-read-out Inv-loop μ-loop
 shared-slice-read-out c = omega arith

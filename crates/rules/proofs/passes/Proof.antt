@@ -92,6 +92,12 @@ enum-told-14 c = search needs
 slot-in-range-requires : tie.Need-slot-in-range-requires
 slot-in-range-requires c κs = search needs
 
+enum-told-15 : tie.Need-enum-told-15
+enum-told-15 c = search needs
+
+through-requires : tie.Need-through-requires
+through-requires c κs = search needs
+
 returns : tie.Need-returns
 unfolding test
 returns c = c .held .ensures ∙ ap (λ (t : Test). test t (view (c .before .before .before .args .h .now)) (c .before .before .before .args .i)) (sym (c .before .enum-told .given .1))
@@ -148,6 +154,10 @@ returns-14 : tie.Need-returns-14
 unfolding test
 returns-14 c = c .slot-in-range .ensures ∙ ap (λ (t : Test). test t (view (c .before .before .before .args .h .now)) (c .before .before .before .args .i)) (sym (c .before .enum-told14 .given .1))
 
+returns-15 : tie.Need-returns-15
+unfolding test
+returns-15 c = c .through .ensures ∙ ap (λ (t : Test). test t (view (c .before .before .before .args .h .now)) (c .before .before .before .args .i)) (sym (c .before .enum-told15 .given .1))
+
 pub passes-spec : {M : Type 1} → statement M
 passes-spec =
     tie.close
@@ -180,6 +190,8 @@ passes-spec =
     set-in-range-requires
     enum-told-14
     slot-in-range-requires
+    enum-told-15
+    through-requires
     returns
     returns-2
     returns-3
@@ -193,4 +205,5 @@ passes-spec =
     returns-11
     returns-12
     returns-13
-    returns-14)
+    returns-14
+    returns-15)

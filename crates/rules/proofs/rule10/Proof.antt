@@ -20,6 +20,9 @@ mode-requires c κs = search needs
 add-singles : tie.Need-add-singles
 add-singles c = search needs
 
+policy-requires : tie.Need-policy-requires
+policy-requires c κs = search needs
+
 all-requires : tie.Need-all-requires
 all-requires c κs = search needs
 
@@ -47,9 +50,9 @@ all-entries-requires c κs = search needs
 returns : tie.Need-returns
 unfolding test entryTest
 returns c =
-    let h = c .before .before .before .before .before .before .before .before .before .before .before .args .h .now in
-    let w = c .before .before .before .before .before .before .before .before .before .before .whole .ensures in
-    rw (c .all-entries .ensures, c .before .all6 .ensures, c .before .before .all5 .ensures, c .before .before .before .all4 .ensures, c .before .before .before .before .all3 .ensures, c .before .before .before .before .before .all2 .ensures, c .before .before .before .before .before .before .all .ensures, c .before .before .before .before .before .before .before .mode .ensures, c .before .before .before .before .before .before .before .before .before .active .ensures)
+    let h = c .before .before .before .before .before .before .before .before .before .before .before .before .args .h .now in
+    let w = c .before .before .before .before .before .before .before .before .before .before .before .whole .ensures in
+    rw (c .all-entries .ensures, c .before .all6 .ensures, c .before .before .all5 .ensures, c .before .before .before .all4 .ensures, c .before .before .before .before .all3 .ensures, c .before .before .before .before .before .all2 .ensures, c .before .before .before .before .before .before .all .ensures, c .before .before .before .before .before .before .before .policy .ensures, c .before .before .before .before .before .before .before .before .mode .ensures, c .before .before .before .before .before .before .before .before .before .before .active .ensures)
     (rule10-is (view h) (view-sized h w) (view-bytes h w))
 
 pub rule10-spec : {M : Type 1} → statement M
@@ -60,6 +63,7 @@ rule10-spec =
     active-requires
     mode-requires
     add-singles
+    policy-requires
     all-requires
     mul-all
     all-requires-2

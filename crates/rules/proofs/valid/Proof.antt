@@ -41,22 +41,26 @@ rule9-requires c κs = search needs
 rule10-requires : tie.Need-rule10-requires
 rule10-requires c κs = search needs
 
+rule11-requires : tie.Need-rule11-requires
+rule11-requires c κs = search needs
+
 returns : tie.Need-returns
 unfolding valid?
 returns c =
-    let h = c .before .before .before .before .before .before .before .before .before .before .before .args .h .now in
+    let h = c .before .before .before .before .before .before .before .before .before .before .before .before .args .h .now in
     rw (
-      c .rule10 .ensures,
-      c .before .rule9 .ensures,
-      c .before .before .rule8 .ensures,
-      c .before .before .before .rule7 .ensures,
-      c .before .before .before .before .rule6 .ensures,
-      c .before .before .before .before .before .rule5 .ensures,
-      c .before .before .before .before .before .before .rule4 .ensures,
-      c .before .before .before .before .before .before .before .rule3 .ensures,
-      c .before .before .before .before .before .before .before .before .rule2 .ensures,
-      c .before .before .before .before .before .before .before .before .before .rule1 .ensures,
-      sized⇔ (view h) .1 (view-sized h (c .before .before .before .before .before .before .before .before .before .before .whole .ensures)),
+      c .rule11 .ensures,
+      c .before .rule10 .ensures,
+      c .before .before .rule9 .ensures,
+      c .before .before .before .rule8 .ensures,
+      c .before .before .before .before .rule7 .ensures,
+      c .before .before .before .before .before .rule6 .ensures,
+      c .before .before .before .before .before .before .rule5 .ensures,
+      c .before .before .before .before .before .before .before .rule4 .ensures,
+      c .before .before .before .before .before .before .before .before .rule3 .ensures,
+      c .before .before .before .before .before .before .before .before .before .rule2 .ensures,
+      c .before .before .before .before .before .before .before .before .before .before .rule1 .ensures,
+      sized⇔ (view h) .1 (view-sized h (c .before .before .before .before .before .before .before .before .before .before .before .whole .ensures)),
     )
 
 pub valid-spec : {M : Type 1} → statement M
@@ -74,4 +78,5 @@ valid-spec =
     rule8-requires
     rule9-requires
     rule10-requires
+    rule11-requires
     returns)

@@ -1,14 +1,15 @@
 //! Damages by the rule they are aimed at, and rules 1, 2 and 3.
 
-use crate::damage::{buffers as b, tables as t};
+use crate::damage::{buffers as b, policies as p, tables as t};
 use crate::numbers::{GuestId, Mach, Phys, Place};
 use crate::rng::Rng;
+use crate::rules::RULES;
 use crate::state::{Kind, Mode, Owner, Page, Pending, State};
 
 /// None where the state has no place for the damage.
 pub type Damage = fn(&mut State, &mut Rng) -> Option<()>;
 
-pub const AIMED: [&[Damage]; 10] = [
+pub const AIMED: [&[Damage]; RULES] = [
     &[running_with_a_call, argument_past_its_range, unused_argument],
     &[
         host_page_value,
@@ -45,6 +46,7 @@ pub const AIMED: [&[Damage]; 10] = [
         b::line_without_entry,
         b::line_of_host,
         b::line_nowhere,
+        p::line_nowhere_with_any_value,
         b::key_twice_misplaced,
     ],
     &[b::slot_other_page, b::slot_moved, b::slot_unmapped, b::slot_nowhere, b::slot_without_table],
@@ -68,6 +70,16 @@ pub const AIMED: [&[Damage]; 10] = [
         odd_mark,
         odd_owner_unmarked,
         odd_kind,
+        p::odd_policy,
+        p::odd_policy_with_a_dirty_line,
+    ],
+    &[
+        p::line_value,
+        p::value_under_a_line,
+        p::through_with_a_dirty_line,
+        p::key_twice_with_another_value,
+        p::line_of_any_page,
+        p::line_of_no_address,
     ],
 ];
 

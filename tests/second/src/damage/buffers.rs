@@ -5,14 +5,14 @@ use crate::numbers::{GuestId, Mach, Place, Virt, STEALTH};
 use crate::rng::Rng;
 use crate::state::{Line, Page, Set, Slot, State};
 
-type At = (usize, usize);
+pub type At = (usize, usize);
 
-fn line_at(s: &State, (set, way): At) -> &Line {
+pub fn line_at(s: &State, (set, way): At) -> &Line {
     &s.cache[set].ways[way]
 }
 
 /// Some way outside set 7, empty or not.
-fn any_way(s: &State, rng: &mut Rng, empty: bool) -> Option<At> {
+pub fn any_way(s: &State, rng: &mut Rng, empty: bool) -> Option<At> {
     let all: Vec<At> = (0..7)
         .flat_map(|set| [(set, 0), (set, 1)])
         .filter(|at| line_at(s, *at).page.is_empty() == empty)
@@ -20,9 +20,17 @@ fn any_way(s: &State, rng: &mut Rng, empty: bool) -> Option<At> {
     rng.pick(&all)
 }
 
-fn put_line(s: &mut State, (set, way): At, line: Line) -> Option<()> {
+pub fn put_line(s: &mut State, (set, way): At, line: Line) -> Option<()> {
     s.cache[set].ways[way] = line;
     Some(())
+}
+
+/// Any value, but under write-through mostly the page's in memory, so that rule 11 is spared.
+fn any_value(s: &State, rng: &mut Rng, page: Mach) -> u32 {
+    match s.writes_through() && rng.percent(80) {
+        true => s.page(page).memory,
+        false => rng.draw() as u32,
+    }
 }
 
 pub fn key_twice(s: &mut State, rng: &mut Rng) -> Option<()> {
@@ -51,7 +59,8 @@ pub fn line_unmapped(s: &mut State, rng: &mut Rng) -> Option<()> {
     let va = Virt::new((at.0 + 8 * rng.below(6)) as u8)?;
     let page = any_page(s, rng, |page| is_guests(page) && page.is_data() && page.is_cacheable())?;
     (s.addresses_of(page) & va.bit() == 0).then_some(())?;
-    put_line(s, at, Line::new(va, page, rng.draw() as u32))
+    let value = any_value(s, rng, page);
+    put_line(s, at, Line::new(va, page, value))
 }
 
 pub fn line_uncacheable(s: &mut State, rng: &mut Rng) -> Option<()> {
@@ -181,13 +190,15 @@ fn other_stealth(s: &State, rng: &mut Rng) -> Option<Mach> {
 
 pub fn other_stealth_line(s: &mut State, rng: &mut Rng) -> Option<()> {
     let page = other_stealth(s, rng)?;
-    stealth_set(s).ways[0] = Line::new(STEALTH, page, rng.draw() as u32);
+    let value = any_value(s, rng, page);
+    stealth_set(s).ways[0] = Line::new(STEALTH, page, value);
     Some(())
 }
 
 pub fn second_stealth_line(s: &mut State, rng: &mut Rng) -> Option<()> {
     let page = other_stealth(s, rng)?;
-    stealth_set(s).ways[1] = Line::new(STEALTH, page, rng.draw() as u32);
+    let value = any_value(s, rng, page);
+    stealth_set(s).ways[1] = Line::new(STEALTH, page, value);
     Some(())
 }
 

@@ -2,14 +2,15 @@
 
 mod aimed;
 mod buffers;
+mod policies;
 mod tables;
 
 use crate::bytes::OFFSETS;
 use crate::gen::deep::{one, Phase};
 use crate::gen::driver::Driver;
 use crate::rng::Rng;
-use crate::rules::rules;
-use crate::state::State;
+use crate::rules::{rules, RULES};
+use crate::state::{Policy, State};
 
 pub use aimed::{Damage, AIMED};
 
@@ -19,22 +20,23 @@ const RUN_LENGTH: usize = 1500;
 /// The only rule broken, 0 for rule 1, if exactly one is.
 pub fn broken_alone(state: &State) -> Option<usize> {
     let holds = rules(state);
-    let mut broken = (0..10).filter(|rule| !holds[*rule]);
+    let mut broken = (0..RULES).filter(|rule| !holds[*rule]);
     match (broken.next(), broken.next()) {
         (Some(rule), None) => Some(rule),
         _ => None,
     }
 }
 
-/// `count` damaged states, the same for the same seed.
+/// `count` damaged states of runs under both policies by turns, the same for the same seed.
 pub fn states(seed: u64, count: usize) -> Vec<State> {
     let mut rng = Rng::new(seed ^ 0x6461_6D61_6765);
-    let mut driver = Driver::new(rng.draw(), RUN_LENGTH);
+    let mut drivers = Policy::BOTH.map(|policy| Driver::started(policy, rng.draw(), RUN_LENGTH));
     (0..count)
         .map(|i| {
-            advance(&mut driver, &mut rng);
+            let driver = &mut drivers[i / 2 % 2];
+            advance(driver, &mut rng);
             if i % 2 == 0 {
-                aim(&mut driver, &mut rng, i / 2 % 10)
+                aim(driver, &mut rng, i / 2 % RULES)
             } else {
                 scatter(&driver.state, &mut rng)
             }
@@ -42,10 +44,10 @@ pub fn states(seed: u64, count: usize) -> Vec<State> {
         .collect()
 }
 
-/// Goes on with the run for a while, or begins another.
+/// Goes on with the run for a while, or begins another of its policy.
 fn advance(driver: &mut Driver, rng: &mut Rng) {
     if driver.records.len() + 200 > driver.limit {
-        *driver = Driver::new(rng.draw(), RUN_LENGTH);
+        *driver = Driver::started(driver.state.policy, rng.draw(), RUN_LENGTH);
         go(driver, Phase::Build, 60);
     }
     let phase = rng.pick(&[Phase::Build, Phase::Work, Phase::Build, Phase::Drain]);
@@ -136,9 +138,10 @@ mod tests {
     fn every_damage_is_met() {
         let mut rng = Rng::new(5);
         let mut met: Vec<Vec<bool>> = AIMED.iter().map(|list| vec![false; list.len()]).collect();
-        let mut driver = Driver::new(6, 0);
-        for _ in 0..400 {
-            advance(&mut driver, &mut rng);
+        let mut drivers = Policy::BOTH.map(|policy| Driver::started(policy, 6, 0));
+        for i in 0..400 {
+            let driver = &mut drivers[i % 2];
+            advance(driver, &mut rng);
             for (rule, list) in AIMED.iter().enumerate() {
                 for (i, damage) in list.iter().enumerate() {
                     let mut state = driver.state.clone();

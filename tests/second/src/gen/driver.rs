@@ -5,7 +5,7 @@ use crate::gen::near;
 use crate::numbers::{GuestId, Mach, Phys, Virt};
 use crate::record::{decode, encode, Action, Call};
 use crate::rng::Rng;
-use crate::state::{fresh, Mode, State};
+use crate::state::{fresh_with, Mode, Policy, State};
 use crate::step::apply;
 
 /// So many turns in a row without a record, and the machine is held to accept no more.
@@ -26,8 +26,13 @@ pub struct Driver {
 
 impl Driver {
     pub fn new(seed: u64, limit: usize) -> Driver {
+        Driver::started(Policy::WriteBack, seed, limit)
+    }
+
+    /// On the fresh machine of a policy.
+    pub fn started(policy: Policy, seed: u64, limit: usize) -> Driver {
         Driver {
-            state: fresh(),
+            state: fresh_with(policy),
             rng: Rng::new(seed),
             records: Vec::new(),
             limit,

@@ -5,13 +5,17 @@ pub mod binary;
 pub mod pieces;
 
 use second::hex::from_hex;
-use second::{fresh, step, valid, State, HEADER};
+use second::{fresh_with, step, valid, Policy, State, HEADER};
 
 pub struct Machine(pub State);
 
 impl Machine {
     pub fn fresh() -> Machine {
-        Machine(fresh())
+        Machine::started(Policy::WriteBack)
+    }
+
+    pub fn started(policy: Policy) -> Machine {
+        Machine(fresh_with(policy))
     }
 
     /// Gives a record; the state must stay valid, and a refusal must change nothing.
@@ -104,7 +108,10 @@ pub fn nine() -> Vec<[u8; 8]> {
 }
 
 pub fn after_nine() -> Machine {
-    let mut machine = Machine::fresh();
+    after_nine_on(Machine::fresh())
+}
+
+pub fn after_nine_on(mut machine: Machine) -> Machine {
     for record in nine() {
         machine.give(&record);
     }

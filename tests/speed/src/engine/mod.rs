@@ -7,7 +7,7 @@ mod search;
 pub mod sizes;
 mod state;
 
-use ration::{Refusal, Report, ANSWER, RECORD};
+use ration::{Refusal, Report, WritePolicy, ANSWER, RECORD};
 use records::*;
 use sizes::*;
 use state::*;
@@ -75,8 +75,8 @@ impl<S: Search> Engine<S> {
         }
         match record.kind() {
             SILENT => {}
-            READ | READ_HYPER => return Ok(*self.access(record.a())?),
-            WRITE | WRITE_HYPER => *self.access(record.a())? = record.value(),
+            READ | READ_HYPER => return self.access(record.a(), None),
+            WRITE | WRITE_HYPER => return self.access(record.a(), Some(record.value())),
             SWITCH => self.switch(usize::from(record.a()))?,
             HCALL => {
                 self.call[self.active] = record.asked();
@@ -111,11 +111,24 @@ impl<S: Search> Engine<S> {
         }
     }
 
-    fn access(&mut self, va: u8) -> Result<&mut u32, u8> {
+    /// The page to which the table in force maps va.
+    fn mapped(&self, va: u8) -> Result<usize, u8> {
         refuse_reserved(va)?;
         let lead = self.entry[self.table][usize::from(va)];
         refuse(lead == 0, 6)?;
-        Ok(self.value_at(va, page_at(lead)))
+        Ok(page_at(lead))
+    }
+
+    /// A read, or a write of a value.
+    fn access(&mut self, va: u8, written: Option<u32>) -> Judged {
+        let page = self.mapped(va)?;
+        let place = self.value_at(va, page);
+        let Some(value) = written else { return Ok(*place) };
+        *place = value;
+        if self.policy == WritePolicy::Through {
+            self.memory[page] = value;
+        }
+        Ok(0)
     }
 
     fn registered(&self, pa: u8) -> Result<usize, u8> {
@@ -150,8 +163,7 @@ impl<S: Search> Engine<S> {
     }
 
     fn del(&mut self, va: u8) -> Result<(), u8> {
-        refuse_reserved(va)?;
-        refuse(self.entry[self.table][usize::from(va)] == 0, 6)?;
+        self.mapped(va)?;
         self.unmap(va);
         Ok(())
     }

@@ -2,7 +2,7 @@
 
 use std::marker::PhantomData;
 
-use ration::SIZE;
+use ration::{WritePolicy, SIZE};
 
 use super::sizes::{CALL_BYTES, GUESTS, HOST_PAGES, PAGES, PHYSICALS, SETS, SLOTS, VIRTUALS, WAYS};
 
@@ -49,6 +49,7 @@ pub struct Engine<S> {
     pub(super) history: [u8; SETS],
     pub(super) slot: [Slot; SLOTS],
     pub(super) memory: [u32; PAGES],
+    pub(super) policy: WritePolicy,
     /// The page of the table in force.
     pub(super) table: usize,
     /// How many entries a page has.
@@ -70,7 +71,7 @@ pub fn lead_to(page: usize) -> Lead {
 }
 
 impl<S> Engine<S> {
-    pub fn fresh() -> Engine<S> {
+    pub fn fresh_with(policy: WritePolicy) -> Engine<S> {
         let mut engine = Engine {
             owner: [OWNER_NONE; PAGES],
             kind: [KIND_NONE; PAGES],
@@ -86,6 +87,7 @@ impl<S> Engine<S> {
             history: [0; SETS],
             slot: [Slot::default(); SLOTS],
             memory: [0; PAGES],
+            policy,
             table: 0,
             entries: [0; PAGES],
             tables: [[0; VIRTUALS]; PAGES],
@@ -124,6 +126,7 @@ impl<S> Engine<S> {
         bytes.extend(self.slot.map(|slot| slot.page));
         bytes.extend(self.memory.iter().flat_map(|value| value.to_le_bytes()));
         bytes.extend(lines().flat_map(|line| line.value.to_le_bytes()));
+        bytes.push(self.policy.number());
         bytes.try_into().expect("docs/STATE.md has so many bytes")
     }
 }
