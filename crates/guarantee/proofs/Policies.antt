@@ -24,6 +24,10 @@ use Rattle.journal.specs.declared.Verdict.{Verdict}
 use Rattle.journal.specs.Promises.{Runs, verdictTo}
 use Rattle.guarantee.specs.Policies.{SameAnswers}
 
+-- two states that are alike, by other words for each
+alike-as : {s t u w : State} → u ≡ s → w ≡ t → Alike s t → Alike u w
+alike-as {s} {t} {u} e f a = subst (Alike u) (sym f) (subst (λ (x : State). Alike x t) (sym e) a)
+
 -- any journal, run or refused, with any buffer
 pub same-journal : (x y z t j b : List ℕ) {v w : Verdict} {c d : List ℕ} → Valid (view x) → Valid (view z) → Alike (view x) (view z) → Bytes j
     → Runs (view x) j b v (view y) c → Runs (view z) j b w (view t) d → SameAnswers x y z t v w c d
@@ -32,7 +36,7 @@ same-journal x y z t j b m n l bytes p q =
     record {
       verdict = q .verdict ∙ ap verdictTo (u .verdict) ∙ sym (p .verdict);
       buffer = q .buffer ∙ u .buffer ∙ sym (p .buffer);
-      alike = subst (λ (s : State). Alike s (view t)) (sym (p .state)) (subst (Alike _) (sym (q .state)) (u .alike));
+      alike = alike-as (p .state) (q .state) (u .alike);
       firstPolicy = ap (λ (s : State). s .shape .policy) (p .state) ∙ u .firstPolicy;
       secondPolicy = ap (λ (s : State). s .shape .policy) (q .state) ∙ u .secondPolicy;
     }
@@ -43,7 +47,7 @@ pub fresh-same : (first second : ℕ) → first < policies → second < policies
     → SameAnswers x y z t v w c d
 fresh-same first second f s x y z t j b e g =
     same-journal x y z t j b (subst Valid (sym e) (fresh-valid first f)) (subst Valid (sym g) (fresh-valid second s))
-    (subst (λ (u : State). Alike u (view z)) (sym e) (subst (Alike (freshWith first)) (sym g) (fresh-alike first second)))
+    (alike-as e g (fresh-alike first second))
 
 -- calls of feed since begin, on each, however cut, that took the same bytes in all
 pub same-fed : (s t : State) (xs ys : List Call) {u w : State} (l m : List ℕ) → Valid s → Valid t → Alike s t → Each (λ c. Bytes (c .piece)) xs
@@ -54,5 +58,5 @@ same-fed s t xs ys {u} {w} l m v n a b c d e =
     let r = alike-runs v n a (recordsOf (takenBy xs)) (records-bytes (takenBy xs) (taken-bytes xs b)) in
     let f : run t (recordsOf (takenBy ys)) ≡ run t (recordsOf (takenBy xs)) = ap (λ (j : List ℕ). run t (recordsOf j)) e in (
       q .answers ∙ ap (λ (o : Ran). written (o .answers)) f ∙ ap written (r .answers) ∙ sym (p .answers),
-      subst (λ (o : State). Alike o w) (sym (p .state)) (subst (Alike _) (sym (q .state ∙ ap (λ (o : Ran). o .state) f)) (r .alike)),
+      alike-as (p .state) (q .state ∙ ap (λ (o : Ran). o .state) f) (r .alike),
     )

@@ -107,7 +107,15 @@ word-kept k i v xs e h =
     ∙ ap (withWords k (view xs)) (sym (set-out (worded k (view xs)) i v (omega (arith, ap length (words-part k xs e), length-words (row k .size) (part (cut sizes xs) (fieldOf k))))))
     ∙ words-put k (view xs) i v e
 
--- ---- the active guest and the mode: a byte each
+-- ---- the active guest, the mode and the policy: a byte each
+
+-- a store in such a field: F is the state by what its byte is
+byte-put : (f v : ℕ) (xs : List ℕ) → 0 < size sizes f → length xs ≡ bytes → (F : ℕ → State)
+    → stateOf (edit f (λ s. set s 0 v) (cut sizes xs)) ≡ F (at (set (part (cut sizes xs) f) 0 v) 0) → view (set xs (begin sizes f + 0) v) ≡ F v
+unfolding view
+byte-put f v xs h l F e =
+    ap stateOf (cut-set sizes f 0 v xs h) ∙ e
+    ∙ ap F (at-same (part (cut sizes xs) f) 0 v (omega (arith, cut-length sizes f xs (omega arith))))
 
 pub single-get : (k : ℕ) (xs : List ℕ) → k < singles → at xs (begin sizes activeField + k) ≡ single k (view xs)
 unfolding view
@@ -117,15 +125,9 @@ single-get (suc (suc k)) xs e = absurd (omega arith)
 
 pub single-put : (k v : ℕ) (xs : List ℕ) → k < singles → length xs ≡ bytes → view (set xs (begin sizes activeField + k) v) ≡ putSingle k (view xs) v
 unfolding view putActive putMode
-single-put zero v xs e l =
-    ap stateOf (cut-set sizes activeField 0 v xs (omega arith))
-    ∙ ap (λ (n : ℕ). putActive (view xs) n) (at-same (part (cut sizes xs) activeField) 0 v (omega (arith, cut-length sizes activeField xs (omega arith))))
-single-put (suc zero) v xs e l =
-    ap stateOf (cut-set sizes modeField 0 v xs (omega arith))
-    ∙ ap (λ (n : ℕ). putMode (view xs) n) (at-same (part (cut sizes xs) modeField) 0 v (omega (arith, cut-length sizes modeField xs (omega arith))))
+single-put zero v xs e l = byte-put activeField v xs (omega arith) l (putActive (view xs)) refl
+single-put (suc zero) v xs e l = byte-put modeField v xs (omega arith) l (putMode (view xs)) refl
 single-put (suc (suc k)) v xs e l = absurd (omega arith)
-
--- ---- the policy: a byte
 
 pub policy-get : (xs : List ℕ) → at xs (begin sizes policyField) ≡ view xs .shape .policy
 unfolding view
@@ -133,9 +135,7 @@ policy-get xs = cut-get sizes policyField 0 xs (omega arith)
 
 pub policy-put : (v : ℕ) (xs : List ℕ) → length xs ≡ bytes → view (set xs (begin sizes policyField) v) ≡ putPolicy (view xs) v
 unfolding view putPolicy
-policy-put v xs l =
-    ap stateOf (cut-set sizes policyField 0 v xs (omega arith))
-    ∙ ap (λ (n : ℕ). putPolicy (view xs) n) (at-same (part (cut sizes xs) policyField) 0 v (omega (arith, cut-length sizes policyField xs (omega arith))))
+policy-put v xs l = byte-put policyField v xs (omega arith) l (putPolicy (view xs)) refl
 
 -- ---- the map of free pages: eight bytes
 

@@ -1,7 +1,7 @@
 -- Fields copied out of an image and into one, byte by byte.
 -- Assumes nothing.
 use mathlib.Core.Path.{_≡_, sym, ap, _∙_}
-use mathlib.Core.Logic.{_⊎_, inl, inr, ⊎-elim}
+use mathlib.Core.Logic.{⊎-elim}
 use mathlib.Core.List.{List, [], _∷_, _++_}
 use Prim.Native.Nat.{ℕ, _+_, _≤_, _<_}
 use native.Mathlib.Omega.{arith}
@@ -14,8 +14,8 @@ use Rattle.laws.proofs.Lists.{at-past, at-same, at-other}
 use Rattle.model.specs.Sizes.{imageHeadBytes}
 use Rattle.model.specs.Fields.{stateOf}
 use Rattle.model.specs.Names.{writeBack}
-use Rattle.model.specs.Image.{lengths, imageBytes, head, Image, imageOf, fieldsIn, held}
-use Rattle.model.proofs.Image.{head-rest, head-begins, fields-held, fields-at, rest-long}
+use Rattle.model.specs.Image.{imageBytes, head, Image, imageOf, fieldsIn, held}
+use Rattle.model.proofs.Image.{head-rest, head-begins, fields-held, image-length, fields-at, rest-long}
 use Rattle.host.specs.View.{sizes, policyField, bytes, view, Whole}
 use Rattle.image.specs.Promises.{Begun}
 
@@ -28,16 +28,12 @@ taken xs i l m e =
     ap (λ (x : List ℕ). stateOf (cut sizes x))
     (ext-getD 0 xs (fieldsIn i) (l ∙ sym (rest-long i m)) (λ j h. e j (omega arith) ∙ sym (fields-at i j)))
 
--- the bytes behind an image's head are all fields, or all but the policy
-pub fields-of : (i : List ℕ) → Image i → (length i ≡ imageHeadBytes + bytes) ⊎ (length i ≡ imageHeadBytes + begin sizes policyField)
-fields-of i m = ⊎-elim (λ v. inr (m .long ∙ ap (at lengths) v)) (λ v. inl (m .long ∙ ap (at lengths) v)) (m .version)
-
 pub rest-taken : (xs ys i : List ℕ) (n : ℕ) → n + imageHeadBytes ≡ length i → Image i → at xs (begin sizes policyField) ≡ writeBack
     → ((j : ℕ) → j < n → at ys j ≡ at i (imageHeadBytes + j)) → ((j : ℕ) → n ≤ j → at ys j ≡ at xs j) → (j : ℕ) → j < bytes
     → at ys j ≡ at i (imageHeadBytes + j)
 rest-taken xs ys i n l m e f g j h =
     below? j n (f j)
-    (λ b. let p : j ≡ begin sizes policyField = ⊎-elim (λ z. absurd (omega arith)) (λ z. omega arith) (fields-of i m) in
+    (λ b. let p : j ≡ begin sizes policyField = ⊎-elim (λ z. omega arith) (λ z. absurd (omega arith)) (image-length i m) in
     g j b ∙ ap (at xs) p ∙ e ∙ sym (at-past i (imageHeadBytes + j) (omega arith)))
 
 -- ---- into an image

@@ -13,13 +13,12 @@ use Rattle.laws.proofs.Tests.{eq⇔, and⇔, as⇔, not-so, agree}
 use Rattle.laws.proofs.Search.{all⇔}
 use Rattle.model.specs.Sizes.{byteBound, markBytes, imageHeadBytes}
 use Rattle.model.specs.Image.{mark, lengths, isImage}
-use Rattle.model.proofs.Image.{image⇔}
+use Rattle.model.proofs.Image.{image⇔, image-length}
 
 module _ (i : List ℕ) where
   -- no room for mark and version
   pub too-short : length i < imageHeadBytes → false ≡ isImage i
-  too-short h =
-      sym (not-so (image⇔ i) (λ m. ⊎-elim (λ v. omega (arith, m .long ∙ ap (at lengths) v)) (λ v. omega (arith, m .long ∙ ap (at lengths) v)) (m .version)))
+  too-short h = sym (not-so (image⇔ i) (λ m. ⊎-elim (λ l. omega arith) (λ l. omega arith) (image-length i m)))
 
   abbrev Marked : Type 0
   Marked = (k : ℕ) → k < markBytes → at i k ≡ at mark k

@@ -48,6 +48,10 @@ module _ (i : List ℕ) where
       as⇔ (and⇔ (all⇔ markBytes (λ k h. eq⇔ (at i k) (at mark k))) (eq⇔ (length i) (at lengths (versionIn i)))) formed-image
       (λ m. (m .marked, m .long))
 
+-- its bytes, by the version
+pub image-length : (i : List ℕ) → Image i → (length i ≡ at lengths firstVersion) ⊎ (length i ≡ imageBytes)
+image-length i m = ⊎-elim (λ v. inl (m .long ∙ ap (at lengths) v)) (λ v. inr (m .long ∙ ap (at lengths) v)) (m .version)
+
 -- ---- there and back
 
 -- where the head stands first, it and what follows it are all

@@ -18,8 +18,8 @@ use Rattle.model.specs.Valid.{valid?}
 use Rattle.model.specs.Journal.{hasHeader, formRefusal, journalRefusal, After, away, journal}
 use Rattle.model.specs.Image.{notImage, imageBytes, loaded}
 use Rattle.model.proofs.Journal.{either}
+use Rattle.model.proofs.Image.{image-length}
 use Rattle.model.proofs.Saving.{load-other}
-use Rattle.image.proofs.Copies.{fields-of}
 use Rattle.journal.proofs.Header.{header⇔}
 use Rattle.journal.proofs.Limits.{no-journal, too-long}
 use Rattle.output.specs.Output.{printed, statusOf}
@@ -88,7 +88,7 @@ abbrev pub imageEnough : ℕ
 imageEnough = suc imageBytes
 
 no-image : (s : State) (i : List ℕ) → imageEnough ≤ length i → loaded s i ≡ record { answer = notImage; state = s }
-no-image s i h = load-other s i (λ m. ⊎-elim (λ l. omega arith) (λ l. omega arith) (fields-of i m))
+no-image s i h = load-other s i (λ m. ⊎-elim (λ l. omega arith) (λ l. omega arith) (image-length i m))
 
 pub cut-image : (s : State) (i : List ℕ) → imageEnough ≤ length i → loaded s i ≡ loaded s (take imageEnough i)
 cut-image s i h = no-image s i h ∙ sym (no-image s (take imageEnough i) (omega (arith, length-take-le imageEnough i h)))

@@ -9,7 +9,8 @@ use Rattle.laws.specs.Choice.{at}
 use Rattle.laws.proofs.Lists.{at-other, filled-more}
 use Rattle.model.specs.Sizes.{imageHeadBytes}
 use Rattle.host.specs.View.{bytes}
-use Rattle.image.proofs.Copies.{taken, fields-of, rest-taken}
+use Rattle.model.proofs.Image.{image-length}
+use Rattle.image.proofs.Copies.{taken, rest-taken}
 use Rattle.image.proofs.take_fields.Statement.{statement}
 use Rattle.image.proofs.take_fields.Tie as tie
 
@@ -22,11 +23,11 @@ abbrev μ-loop : tie.MeasureT-loop
 μ-loop s₀ image n i₀ s i = n - i
 
 sub-n : tie.Need-sub-n Inv-loop μ-loop
-sub-n c = ⊎-elim (λ e. omega arith) (λ e. omega arith) (fields-of (c .args .image .now) (c .pre .1))
+sub-n c = ⊎-elim (λ e. omega arith) (λ e. omega arith) (image-length (c .args .image .now) (c .pre .1))
 
 loop-holds : tie.Need-loop-holds Inv-loop μ-loop
 loop-holds c =
-    let l = fields-of (c .args .image .now) (c .pre .1) in (
+    let l = image-length (c .args .image .now) (c .pre .1) in (
       omega arith,
       ⊎-elim (λ e. omega arith) (λ e. omega arith) l,
       ⊎-elim (λ e. omega arith) (λ e. omega arith) l,
