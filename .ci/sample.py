@@ -22,6 +22,7 @@ one
 tests/speed/run
 ```
 """,
+    "docs/CHECKING.md": "```sh\necho three\n```\n```text\nthree\n```\n",
     ".ci/run": "#!/bin/sh\n",
     "tests/speed/run": "#!/bin/sh\n",
     "docs/GUARANTEE.md": """
@@ -64,7 +65,8 @@ The same, `one-step` of crates/steps/proofs/Answers.antt, whole:
 |---|---|
 | one answer | `laws: Answers.one-answer`, `host: Sections.inside` |
 """,
-    "docs/RULES.md": "As docs/HOST.md, \"Valid states\".\n\n## 1\n\n\"A guest is a guest.\"\n\n## 2\n\n\"A page is no guest.\"\n\n## Edits that break a rule\n\n1 `a_rule_left_out`.\n",
+    "docs/STATE.md": "| no. | field |\n|---|---|\n| 0 | owner |\n| 1 | callA |\n| | end |\n",
+    "docs/RULES.md": "As docs/HOST.md, \"Valid states\".\n\n| rule | part | places |\n|---|---|---|\n| 1 | 0 | guests |\n| 2 | 0 to 1 | numbers |\n| 2 | 2 | free pages |\n\n## 1\n\n\"A guest is a guest.\"\n\n## 2\n\n\"A page is no guest.\"\n\n## Edits that break a rule\n\n1 `a_rule_left_out`.\n",
     "docs/ANSWERS.md": """
 | reading | theorem |
 |---|---|
@@ -200,6 +202,7 @@ if target:
 enum { RATION_SIZE = 4, RATION_KIND_SILENT = 0, /* nothing */ RATION_KIND_RET_CTRL = 11, RATION_KIND_NEW_SM = 1 };
 enum { RATION_CALL_NONE = 0 };
 enum { RATION_DONE = 0, RATION_REFUSED_STATE = 1 };
+enum { RATION_RULES = 2, RATION_FIELD_OWNER = 0, RATION_FIELD_CALL_A = 1, RATION_PART_2_PAGES = 2 };
 void ration_step(uint8_t state[4]); /* a step */
 """,
     "crates/laws/src/lib.rt": "",

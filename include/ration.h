@@ -1,13 +1,13 @@
 /* The ration host on lent bytes: its functions, and every number of a record, an answer, a report, a journal, what is kept of one
- * between its pieces, and an image. docs/HOST.md has the rules behind them, docs/STATE.md the layout of a state, docs/IMAGE.md that
- * of an image, and crates/ration/src/lib.rt the promises that are proved.
+ * between its pieces, an image, and a check. docs/HOST.md has the rules behind them, docs/STATE.md the layout of a state,
+ * docs/IMAGE.md that of an image, docs/RULES.md the places of a check, and crates/ration/src/lib.rt the promises that are proved.
  * `tools/archive DIR` writes DIR/libration.a, for `cc -Iinclude program.c DIR/libration.a`.
  *
  * The proofs assume of a caller what Rust's references do. For each pointer: it is not null, it stays good for the call, and it
- * leads to exactly as many bytes as its parameter says (a length may be 0, and its pointer is then still not null; a size_t is
- * aligned). No byte that a function writes (a parameter without const) is part of another parameter, or used by another thread
- * during the call, and no byte that it reads changes meanwhile. Nothing is assumed of the bytes themselves: any 4,755 bytes are a
- * state, any 9 what is kept, any bytes a record, a journal, a piece of one or an image, and each has its answer.
+ * leads to exactly as many bytes as its parameter says (a length may be 0, and its pointer is then still not null; a size_t and a
+ * uint16_t are aligned). No byte that a function writes (a parameter without const) is part of another parameter, or used by
+ * another thread during the call, and no byte that it reads changes meanwhile. Nothing is assumed of the bytes themselves: any 4,755
+ * bytes are a state, any 9 what is kept, any bytes a record, a journal, a piece of one or an image, and each has its answer.
  * No function keeps a pointer, allocates or fails. */
 #ifndef RATION_H
 #define RATION_H
@@ -63,14 +63,18 @@ enum {
 /* A saved image's first bytes: the mark, version 2 as 16 bits. memcmp(image, RATION_IMAGE_FIRST_BYTES, RATION_IMAGE_STATE_AT) */
 #define RATION_IMAGE_FIRST_BYTES "RPS\002\000"
 
-/* How many there are of each; each counts from 0. A virtual address (va) is what guests read and write, a physical one (pa) says
- * which of a guest's own pages is meant. */
+/* How many there are of each; each counts from 0, rules alone from 1. A virtual address (va) is what guests read and write, a
+ * physical one (pa) says which of a guest's own pages is meant. */
 enum {
     RATION_GUESTS = 4,
     RATION_PHYSICALS = 16,    /* physical addresses of each guest; on a fresh machine the page at 0 is its table */
     RATION_VIRTUALS = 64,     /* virtual addresses */
     RATION_PAGES = 64,        /* machine pages; a fresh machine has 56 free ones */
-    RATION_STEALTH = 7,       /* the virtual address of a table's stealth page */
+    RATION_SETS = 8,          /* sets of the cache */
+    RATION_WAYS = 2,          /* ways of each set; way w of set k is line 2 * k + w */
+    RATION_SLOTS = 8,         /* slots of the TLB */
+    RATION_RULES = 11,        /* rules that a valid state keeps */
+    RATION_STEALTH = 7,       /* the virtual address of a table's stealth page; its lines are in set 7 */
     RATION_FIRST_HOST_VA = 48 /* virtual addresses from here on belong to the host */
 };
 
@@ -125,12 +129,12 @@ enum ration_write_policy {
     RATION_WRITE_THROUGH = 1 /* at once */
 };
 
-/* The number of an answer or of a report, and what starting with a policy, feeding, saving and loading answer. Checks run in this
- * order, and the first that applies is the answer; but loading checks 16 before 1. 1 to 12 are a record's, 1 and 13 to 15 a
- * journal's, 1, 13 and 15 a piece's, 1 and 16 an image's, 1 a policy's. A page is shared from when two addresses lead to it at
- * once until it is unpinned. */
+/* The number of an answer or of a report, and what starting with a policy, feeding, saving, loading and opening answer. Checks run in
+ * this order, and the first that applies is the answer; but loading checks 16 before 1. 1 to 12 are a record's, 1 and 13 to 15 a
+ * journal's, 1, 13 and 15 a piece's, 1 and 16 an image's (16 alone where it is opened), 1 a policy's. A page is shared from when two
+ * addresses lead to it at once until it is unpinned. */
 enum ration_number {
-    RATION_DONE = 0,                      /* the record, the run of a journal or a piece, the save, the load or the start was done */
+    RATION_DONE = 0,                      /* the record, the run, the piece, the save, the load, the opening or the start was done */
     RATION_REFUSED_STATE = 1,             /* the state, or the one in the image, is not valid; starting: there is no such policy */
     RATION_REFUSED_RECORD = 2,            /* not 8 bytes, unknown kind or call, argument out of range, unused byte not 0 */
     RATION_REFUSED_MODE = 3,              /* a guest's action while the host has control, or the host's while a guest runs */
@@ -147,6 +151,48 @@ enum ration_number {
     RATION_REFUSED_TOO_MANY_RECORDS = 14, /* a journal has more than 4,096 whole records; never of a piece */
     RATION_REFUSED_ANSWER_BUFFER = 15,    /* the answer buffer has less than 8 bytes for each whole record, or each to be run */
     RATION_REFUSED_IMAGE = 16             /* mark, version or length is not an image's; saving: the buffer's length is not */
+};
+
+/* What ration_broken answers of a rule. */
+enum ration_finding {
+    RATION_RULE_HOLDS = 0,
+    RATION_RULE_BROKEN = 1,
+    RATION_RULE_UNKNOWN = 2 /* there is no such rule */
+};
+
+/* The fields of a state, in their order: docs/STATE.md. They are the first parts of rule 10. */
+enum ration_field {
+    RATION_FIELD_OWNER = 0,
+    RATION_FIELD_KIND = 1,
+    RATION_FIELD_CACHEABLE = 2,
+    RATION_FIELD_ENTRY = 3,
+    RATION_FIELD_PHYSICAL = 4,
+    RATION_FIELD_FREE = 5,
+    RATION_FIELD_CURRENT = 6,
+    RATION_FIELD_CALL = 7,
+    RATION_FIELD_CALL_A = 8,
+    RATION_FIELD_CALL_B = 9,
+    RATION_FIELD_ACTIVE = 10,
+    RATION_FIELD_MODE = 11,
+    RATION_FIELD_LINE_ADDRESS = 12,
+    RATION_FIELD_LINE_PAGE = 13,
+    RATION_FIELD_HISTORY = 14,
+    RATION_FIELD_SLOT_ADDRESS = 15,
+    RATION_FIELD_SLOT_PAGE = 16,
+    RATION_FIELD_MEMORY = 17,
+    RATION_FIELD_LINE = 18,
+    RATION_FIELD_POLICY = 19
+};
+
+/* The parts of the rules that have several, RATION_PART_ with the rule's number; every other rule has part 0 alone. */
+enum ration_part {
+    RATION_PART_3_ADDRESSES = 0, /* physical addresses */
+    RATION_PART_3_PAGES = 1,
+    RATION_PART_9_WAYS = 0, /* of set 7 */
+    RATION_PART_9_HISTORY = 1,
+    RATION_PART_10_GUESTS = 20, /* the arguments of their calls; parts below this one are RATION_FIELD_.. */
+    RATION_PART_10_LINES = 21,  /* empty ways */
+    RATION_PART_10_SLOTS = 22   /* empty slots */
 };
 
 /* The bytes of a state, of an answer, of a report, of an image and of what is kept, as the archive has them. Where one is not the size
@@ -210,6 +256,31 @@ uint8_t ration_save(const uint8_t state[RATION_SIZE], uint8_t *image, size_t len
  * image's, and write-back where its version is 1. RATION_REFUSED_IMAGE if these bytes are no image of either version, then
  * RATION_REFUSED_STATE if the state that it holds is not valid: state is then as it was. */
 uint8_t ration_load(uint8_t state[RATION_SIZE], const uint8_t *image, size_t length);
+
+/* Makes the state the one that the image of length bytes holds, valid or not, and answers RATION_DONE: so a damaged host can be
+ * checked. The policy is as for ration_load. RATION_REFUSED_IMAGE if these bytes are no image of either version: state is then as it
+ * was. */
+uint8_t ration_open(uint8_t state[RATION_SIZE], const uint8_t *image, size_t length);
+
+/* Checks one rule of the state, whatever the others say: RATION_RULE_HOLDS or RATION_RULE_BROKEN, and RATION_RULE_UNKNOWN if rule is 0
+ * or past RATION_RULES. The state is valid exactly if all of them hold. Of a broken rule *part and *place say where it is broken first,
+ * in the order of docs/RULES.md; else both are 0:
+ *
+ *   rule    part                      place
+ *   1, 5    0                         the guest
+ *   2, 6    0                         the page
+ *   3       RATION_PART_3_ADDRESSES   RATION_PHYSICALS * guest + physical address
+ *           RATION_PART_3_PAGES       the page
+ *   4       0                         RATION_VIRTUALS * page + virtual address
+ *   7, 11   0                         RATION_WAYS * set + way
+ *   8       0                         the slot
+ *   9       RATION_PART_9_WAYS        the way, of set 7
+ *           RATION_PART_9_HISTORY     0, the history of set 7
+ *   10      RATION_FIELD_..           the place in the field, as docs/STATE.md counts them
+ *           RATION_PART_10_GUESTS     the guest
+ *           RATION_PART_10_LINES      RATION_WAYS * set + way
+ *           RATION_PART_10_SLOTS      the slot */
+uint8_t ration_broken(const uint8_t state[RATION_SIZE], uint8_t rule, uint8_t *part, uint16_t *place);
 
 #ifdef __cplusplus
 }

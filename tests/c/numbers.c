@@ -1,6 +1,6 @@
-/* Holds every constant of include/ration.h to the machine, but for those of what is kept, which pieces.c has: each kind is accepted once and
- * each refusal given once, by records that are put together and answers and reports that are read by the header's places. A line for each
- * difference, and status 1. It is C and C++. */
+/* Holds every constant of include/ration.h to the machine, but for those of what is kept and of a check, which pieces.c and checks.c have:
+ * each kind is accepted once and each refusal given once, by records that are put together and answers and reports that are read by the
+ * header's places. A line for each difference, and status 1. It is C and C++. */
 #include <stdio.h>
 #include <string.h>
 

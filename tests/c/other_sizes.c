@@ -76,6 +76,16 @@ uint8_t ration_load(uint8_t state[RATION_SIZE], const uint8_t *image, size_t len
     abort();
 }
 
+uint8_t ration_open(uint8_t state[RATION_SIZE], const uint8_t *image, size_t length) {
+    (void)state, (void)image, (void)length;
+    abort();
+}
+
+uint8_t ration_broken(const uint8_t state[RATION_SIZE], uint8_t rule, uint8_t *part, uint16_t *place) {
+    (void)state, (void)rule, (void)part, (void)place;
+    abort();
+}
+
 void ration_begin(uint8_t kept[RATION_KEPT]) {
     (void)kept;
     abort();

@@ -43,6 +43,8 @@ extern "C" {
     ) -> u8;
     pub fn ration_save(state: *const [u8; SIZE], image: *mut u8, length: usize) -> u8;
     pub fn ration_load(state: *mut [u8; SIZE], image: *const u8, length: usize) -> u8;
+    pub fn ration_open(state: *mut [u8; SIZE], image: *const u8, length: usize) -> u8;
+    pub fn ration_broken(state: *const [u8; SIZE], rule: u8, part: *mut u8, place: *mut u16) -> u8;
 }
 
 /// Panics where the archive was built with other sizes than this package: it would write past what is lent to it.

@@ -2,14 +2,16 @@
 
 use crate::answers::REPORT;
 use crate::archive as c;
-use crate::{Action, Answer, Fed, Kept, Refusal, Report, WritePolicy, ANSWER};
+use crate::{
+    Action, Answer, Fed, Finding, Kept, Place, Refusal, Report, Rule, WritePolicy, ANSWER,
+};
 
 /// The bytes of a state.
 pub const SIZE: usize = 4755;
 /// The bytes of an image as [`Host::save`] makes it, of version 2.
 pub const IMAGE_SIZE: usize = 4760;
 
-/// What starting with a policy, feeding, saving and loading answer: a number, 0 for done.
+/// What starting with a policy, feeding, saving, loading and opening answer: a number, 0 for done.
 fn done(number: u8) -> Result<(), Refusal> {
     Refusal::from_number(number.into()).map_or(Ok(()), Err)
 }
@@ -85,7 +87,8 @@ impl Host {
         WritePolicy::from_number(unsafe { c::ration_policy(&*self.0) })
     }
 
-    /// Whether the state is valid, by the eleven rules. From a valid state every action leads to a valid state.
+    /// Whether the state is valid, by the eleven rules. From a valid state every action leads to a valid state. [`Host::check`] says what
+    /// is wrong with one that is not.
     pub fn valid(&self) -> bool {
         unsafe { c::ration_valid(&*self.0) }
     }
@@ -188,5 +191,47 @@ impl Host {
     /// it was.
     pub fn load(&mut self, image: &[u8]) -> Result<(), Refusal> {
         done(unsafe { c::ration_load(&mut *self.0, image.as_ptr(), image.len()) })
+    }
+
+    /// Makes the state the one that the image holds, as [`Host::load`] does, but whether it is valid or not: for [`Host::check`]. Refused
+    /// with [`Refusal::Image`] alone, if the bytes are no image of either version; the state is then as it was.
+    pub fn open(&mut self, image: &[u8]) -> Result<(), Refusal> {
+        done(unsafe { c::ration_open(&mut *self.0, image.as_ptr(), image.len()) })
+    }
+
+    /// The first place where the state breaks the rule, in the order of `docs/RULES.md`; `None` if the rule holds. Each rule is judged
+    /// by itself, whatever is wrong elsewhere, and any state may be.
+    pub fn broken(&self, rule: Rule) -> Option<Place> {
+        let (mut part, mut place) = (0, 0);
+        match unsafe { c::ration_broken(&*self.0, rule.number(), &mut part, &mut place) } {
+            0 => None,
+            1 => Some(Place::of(rule, part, place)),
+            // a library without this rule, and so not this package's: that it holds was not said
+            _ => Some(Place::Other { part, place }),
+        }
+    }
+
+    /// What is said of each rule, in their order. The state is valid exactly if all of them hold. A finding is displayed as the line that
+    /// `./rpj --check` prints of it.
+    ///
+    /// ```
+    /// use ration::{Guest, Host, Pa, Place, Refusal, Rule};
+    ///
+    /// let mut image = Host::fresh().save()?;
+    /// image[4293 + 16 * 2 + 5] = 5; // guest 2's physical 5 leads to page 4, which is the host's: docs/IMAGE.md
+    /// let mut host = Host::fresh();
+    /// assert_eq!(host.load(&image), Err(Refusal::State));
+    /// host.open(&image)?;
+    /// let broken: Vec<_> = host.check().into_iter().filter(|finding| !finding.holds()).collect();
+    /// assert_eq!(broken.len(), 1);
+    /// assert_eq!(broken[0].to_string(), "3 broken guest 2 physical 5");
+    /// assert_eq!(broken[0].broken, Some(Place::Physical { guest: Guest(2), address: Pa(5) }));
+    /// // or of one rule
+    /// let rule = Rule::from_number(4).unwrap();
+    /// assert_eq!(host.broken(rule), None);
+    /// # Ok::<(), Refusal>(())
+    /// ```
+    pub fn check(&self) -> [Finding; Rule::ALL.len()] {
+        Rule::ALL.map(|rule| Finding { rule, broken: self.broken(rule) })
     }
 }

@@ -1,7 +1,8 @@
 //! The ration host: a state that owns its bytes, actions and answers by their names, and the proved functions over them.
 //!
 //! `docs/HOST.md` of the repository has the rules: what each [`Action`] does, and when each [`Refusal`] is given. [`Host::run`] runs a journal
-//! that is at hand, a [`Feeder`] one that is read as it arrives. [`Host::fresh_with`] starts a host with a [`WritePolicy`].
+//! that is at hand, a [`Feeder`] one that is read as it arrives. [`Host::fresh_with`] starts a host with a [`WritePolicy`]. [`Host::check`]
+//! says what is wrong with a damaged host, which [`Host::open`] reads from its image.
 //!
 //! ```
 //! use ration::{Action, Answer, Call, Guest, Host, Pa, PinKind, Refusal, Va};
@@ -32,6 +33,7 @@
 
 mod answers;
 mod archive;
+mod checking;
 mod feeder;
 mod host;
 mod pieces;
@@ -39,6 +41,7 @@ mod policy;
 mod records;
 
 pub use answers::{Answer, Refusal, Report, Unknown, ANSWER};
+pub use checking::{Field, Finding, Place, Rule};
 pub use feeder::{FeedError, Feeder};
 pub use host::{Host, IMAGE_SIZE, SIZE};
 pub use pieces::{Fed, Kept, KEPT_SIZE};

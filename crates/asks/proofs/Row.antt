@@ -16,7 +16,7 @@ use Rattle.model.specs.Records.{nothing, activeIdle, namedIdle, namedPending, r
 use Rattle.model.specs.Checks.{Asked, asked, first, hasCall, wrongMode, wrongCall}
 use Rattle.model.specs.Step.{ownChecks, refusal}
 use Rattle.numbers.specs.declared.calls.Call.the-variants.{None}
-use Rattle.numbers.proofs.Others.{Others, none-left}
+use Rattle.laws.proofs.Others.{Others, none-left}
 use Rattle.records.specs.declared.Row.{Row}
 use Rattle.records.specs.declared.Action.{Action}
 use Rattle.records.specs.declared.Action.the-variants.{Silent, Read, ReadHyper, Write, WriteHyper, New, NewSm, Del, Switch, Lswitch, Hcall, RetCtrl, Chmod, Pin, Unpin, Drop}

@@ -1,4 +1,4 @@
-// What rule 4 tests at one entry, and rule 6 in one pass over all tables.
+// What rule 4 tests at one entry and rule 6 at one page, and rule 6 in one pass over all tables.
 use host::CACHEABLE;
 use host::Host;
 use host::KIND_DATA;
@@ -6,11 +6,14 @@ use host::KIND_TABLE;
 use host::Lead;
 use host::Ma;
 use host::OWNER_GUEST;
+use host::STEALTH;
 use host::Va;
 ghost use mathlib.Core.Path.{_≡_};
 ghost use Prim.Native.Nat.{_+_, _*_, _/_, _%_, _<_};
 ghost use Rattle.host.specs.View.{view};
-ghost use Rattle.entries.specs.Entries.{ownBy, ownAt, counted, unshared};
+ghost use Rattle.entries.specs.Entries.{ownBy, ownAt, sharedAt, mappedTwice, pageUnshared, counted, unshared};
+
+const ADDRESSES: u8 = host::ADDRESSES as u8;
 
 const GUESTS: u8 = host::GUESTS as u8;
 
@@ -36,6 +39,45 @@ pub fn own(h: &Host, m: Ma, a: Va) -> bool
         Lead::Nowhere => host::entry_empty(h, m, a),
     }
 }
+
+// ---- 6, at one page
+
+// Some table maps the page at a, and some table at another address.
+fn shared_at(h: &Host, p: Ma, a: Va) -> bool
+    ensures { λ r. ⌜ r ≡ sharedAt (view (now (h .entry))) (p .0) (a .0) ⌝ }
+{
+    if asks::maps_at(h, p, a) {
+        return asks::maps_away(h, p, a);
+    }
+    false
+}
+
+fn mapped_twice(h: &Host, p: Ma) -> bool
+    ensures { λ r. ⌜ r ≡ mappedTwice (view (now (h .entry))) (p .0) ⌝ }
+{
+    let mut a: u8 = 0;
+    while a < ADDRESSES {
+        if shared_at(h, p, Va(a)) {
+            return true;
+        }
+        a += 1;
+    }
+    false
+}
+
+pub fn page_unshared(h: &Host, p: Ma) -> bool
+    ensures { λ r. ⌜ r ≡ pageUnshared (view (now (h .entry))) (p .0) ⌝ }
+{
+    if host::cacheable(h, p) != CACHEABLE {
+        return !asks::maps_at(h, p, Va(STEALTH));
+    }
+    if host::kind(h, p) != KIND_DATA {
+        return true;
+    }
+    !mapped_twice(h, p)
+}
+
+// ---- 6, in one pass
 
 // The page that table m maps at a, if it is cacheable data, else nowhere.
 fn counted_page(h: &Host, m: Ma, a: Va) -> Ma

@@ -14,18 +14,19 @@ use Rattle.laws.specs.Cut.{cut, size, part, joined}
 use Rattle.model.proofs.Image.{fields-held}
 use Rattle.model.proofs.Fields.{Valued, cut-bytes, word-below}
 use Rattle.model.specs.Fields.{words, long, stateFields, Small}
-use Rattle.host.specs.View.{sizes, view, Whole}
+use Rattle.host.specs.View.{sizes, bytes, view, Whole}
 use Rattle.host.proofs.Words.{length-words, words-get, words-out}
 
-part-length : (xs : List ℕ) → Whole xs → (k : ℕ) → length (part (cut sizes xs) k) ≡ size sizes k
-part-length xs h k = cut-length sizes k xs (omega (arith, h .long))
+part-length : (xs : List ℕ) → length xs ≡ bytes → (k : ℕ) → length (part (cut sizes xs) k) ≡ size sizes k
+part-length xs h k = cut-length sizes k xs (omega (arith, h))
 
 part-small : (xs : List ℕ) → Whole xs → (k : ℕ) → Small (part (cut sizes xs) k)
 part-small xs h k = cut-bytes sizes k xs (h .small)
 
-pub view-sized : (xs : List ℕ) → Whole xs → Sized (view xs)
+-- any numbers, as many as a state has bytes
+pub long-sized : (xs : List ℕ) → length xs ≡ bytes → Sized (view xs)
 unfolding view
-view-sized xs h =
+long-sized xs h =
     let l : (k : ℕ) → length (part (cut sizes xs) k) ≡ size sizes k = part-length xs h in
     record {
       owner = l 0;
@@ -45,6 +46,9 @@ view-sized xs h =
       memory = length-words pages (part (cut sizes xs) 17);
       line = length-words lines (part (cut sizes xs) 18);
     }
+
+pub view-sized : (xs : List ℕ) → Whole xs → Sized (view xs)
+view-sized xs h = long-sized xs (h .long)
 
 -- ---- numbers in range
 

@@ -1,7 +1,7 @@
 -- The view of bytes, field by field: what a read and a store at a place of a field is of the state, and that the state fixes every byte.
 -- Assumes nothing.
 use mathlib.Core.Path.{_≡_, refl, sym, ap, _∙_}
-use mathlib.Core.Bool.{true, false, not, false≢true}
+use mathlib.Core.Bool.{true, false, not, false≢true, true≢false}
 use mathlib.Core.List.{List, [], _∷_}
 use Prim.Native.Nat.{ℕ, zero, suc, _+_, _≤_, _<_}
 use native.Mathlib.Omega.{arith}
@@ -11,6 +11,7 @@ use borrow.Author.Tests.{le-ltb}
 use Rattle.laws.specs.Choice.{at}
 use Rattle.laws.proofs.Tests.{and⇔, lt⇔, true⇔}
 use Rattle.laws.specs.Cut.{cut, begin, size, part, edit, total}
+use Rattle.model.specs.State.{State}
 use Rattle.model.specs.Fields.{stateOf}
 use Rattle.host.specs.View.{sizes, bytes, view, listed, columnsOf, column, withColumns, put}
 use Rattle.laws.proofs.Cut.{cut-get}
@@ -78,6 +79,27 @@ column-put k i v xs e h = ap stateOf (cut-set sizes k i v xs h) ∙ put-part k x
 pub column-kept : (k i v : ℕ) (xs : List ℕ) → listed k ≡ true → size sizes k ≤ i → view xs ≡ put k (view xs) i v
 unfolding put view
 column-kept k i v xs e h = ap stateOf (cut-set-out sizes k i v xs h) ∙ put-part k xs (λ l. set l i v) e
+
+-- past the fields that are lists of bytes there is none
+pub column-none : (k : ℕ) (s : State) → listed k ≡ false → (i : ℕ) → 0 ≡ at (column k s) i
+column-none zero s e i = absurd (true≢false e)
+column-none (suc zero) s e i = absurd (true≢false e)
+column-none (suc (suc zero)) s e i = absurd (true≢false e)
+column-none (suc (suc (suc zero))) s e i = absurd (true≢false e)
+column-none (suc (suc (suc (suc zero)))) s e i = absurd (true≢false e)
+column-none (suc (suc (suc (suc (suc zero))))) s e i = refl
+column-none (suc (suc (suc (suc (suc (suc zero)))))) s e i = absurd (true≢false e)
+column-none (suc (suc (suc (suc (suc (suc (suc zero))))))) s e i = absurd (true≢false e)
+column-none (suc (suc (suc (suc (suc (suc (suc (suc zero)))))))) s e i = absurd (true≢false e)
+column-none (suc (suc (suc (suc (suc (suc (suc (suc (suc zero))))))))) s e i = absurd (true≢false e)
+column-none (suc (suc (suc (suc (suc (suc (suc (suc (suc (suc zero)))))))))) s e i = refl
+column-none (suc (suc (suc (suc (suc (suc (suc (suc (suc (suc (suc zero))))))))))) s e i = refl
+column-none (suc (suc (suc (suc (suc (suc (suc (suc (suc (suc (suc (suc zero)))))))))))) s e i = absurd (true≢false e)
+column-none (suc (suc (suc (suc (suc (suc (suc (suc (suc (suc (suc (suc (suc zero))))))))))))) s e i = absurd (true≢false e)
+column-none (suc (suc (suc (suc (suc (suc (suc (suc (suc (suc (suc (suc (suc (suc zero)))))))))))))) s e i = absurd (true≢false e)
+column-none (suc (suc (suc (suc (suc (suc (suc (suc (suc (suc (suc (suc (suc (suc (suc zero))))))))))))))) s e i = absurd (true≢false e)
+column-none (suc (suc (suc (suc (suc (suc (suc (suc (suc (suc (suc (suc (suc (suc (suc (suc zero)))))))))))))))) s e i = absurd (true≢false e)
+column-none (suc (suc (suc (suc (suc (suc (suc (suc (suc (suc (suc (suc (suc (suc (suc (suc (suc k))))))))))))))))) s e i = refl
 
 -- a listed field's number, and where it ends
 pub listed-below : (k : ℕ) → listed k ≡ true → k < 17

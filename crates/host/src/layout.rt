@@ -48,8 +48,10 @@ pub(crate) const LINE_AT: usize = MEMORY_AT + 4 * PAGES;
 
 pub(crate) const POLICY_AT: usize = LINE_AT + 4 * LINES;
 
+pub(crate) const LISTED: usize = 17;
+
 // The fields that are lists of bytes, by their number, and the three among them that are not; values and policy stand behind them.
-pub(crate) const FIELDS: [Field; 17] = [
+pub(crate) const FIELDS: [Field; LISTED] = [
     Field {
         start: OWNER_AT,
         size: PAGES,
@@ -130,6 +132,8 @@ pub(crate) const ENTRY: usize = 3;
 
 pub(crate) const PHYSICAL: usize = 4;
 
+pub(crate) const FREE: usize = 5;
+
 pub(crate) const CURRENT: usize = 6;
 
 pub(crate) const CALL: usize = 7;
@@ -137,6 +141,10 @@ pub(crate) const CALL: usize = 7;
 pub(crate) const CALL_A: usize = 8;
 
 pub(crate) const CALL_B: usize = 9;
+
+pub(crate) const ACTIVE: usize = 10;
+
+pub(crate) const MODE: usize = 11;
 
 pub(crate) const LINE_ADDRESS: usize = 12;
 

@@ -11,14 +11,18 @@ pub use calls::idle;
 pub use calls::is_pending;
 pub use calls::pending;
 pub use calls::set_pending;
+use layout::ACTIVE;
 use layout::CALL;
 use layout::CALL_A;
 use layout::CALL_B;
 use layout::CURRENT;
 use layout::ENTRY;
 use layout::FIELDS;
+use layout::FREE;
 use layout::KIND;
+use layout::LISTED;
 use layout::MARK;
+use layout::MODE;
 use layout::OWNER;
 use layout::PHYSICAL;
 pub use lines::history;
@@ -111,7 +115,7 @@ pub use values::whole;
 ghost use mathlib.Core.Path.{_≡_};
 ghost use mathlib.Core.Bool.{true};
 ghost use Prim.Native.Nat.{_+_, _*_, _<_};
-ghost use lib.Dec.{eqb};
+ghost use lib.Dec.{eqb, ltb};
 ghost use Rattle.laws.specs.Choice.{at};
 ghost use Rattle.model.specs.Sizes.{addresses, physicals};
 ghost use Rattle.laws.specs.Cut.{begin, size};
@@ -188,6 +192,24 @@ fn set_lead(h: &mut Host, k: usize, i: usize, l: Lead)
 {
     let x = held_for(l);
     set(h, k, i, x.0)
+}
+
+// ---- a number and its bound
+
+fn is_listed(k: usize) -> bool
+    ensures { λ r. ⌜ r ≡ listed k ⌝ }
+{
+    (k < LISTED) & (k != FREE) & (k != ACTIVE) & (k != MODE)
+}
+
+// Whether byte i of field k is below the bound: it is 0 past the end of its field, and where the field is no list of bytes.
+pub fn is_below(h: &Host, k: usize, i: usize, bound: u8) -> bool
+    ensures { λ r. ⌜ r ≡ ltb (at (column k (view (now (h .entry)))) i) bound ⌝ }
+{
+    if is_listed(k) {
+        return get(h, k, i) < bound;
+    }
+    0 < bound
 }
 
 // ---- pages

@@ -1,4 +1,5 @@
 pub mod Cases
+pub mod Others
 pub mod Tests
 pub mod Lists
 pub mod Search

@@ -1,4 +1,4 @@
-// What rules 7, 8 and 11 test at one line or slot, and rule 9.
+// What rules 7, 8 and 11 test at one line or slot, rule 9 at a way of set 7 and at its history, and rule 9 as a whole.
 use host::CACHEABLE;
 use host::Host;
 use host::KIND_DATA;
@@ -12,7 +12,7 @@ use host::WRITE_THROUGH;
 ghost use mathlib.Core.Path.{_≡_};
 ghost use Prim.Native.Nat.{_+_, _/_, _%_, _<_};
 ghost use Rattle.model.specs.State.{table};
-ghost use Rattle.model.specs.RuleTests.{stealthPage, rule9?};
+ghost use Rattle.model.specs.RuleTests.{stealthPage, rule9AtWay, rule9AtHistory, rule9?};
 ghost use Rattle.host.specs.View.{view};
 ghost use Rattle.lines.specs.Lines.{linedBy, lined, slotBy, slotted, firstWay, throughBy, through};
 
@@ -98,12 +98,26 @@ fn first_way(h: &Host, p: Ma) -> bool
     }
 }
 
+// Way w of set 7, and its history.
+pub fn stealth_way(h: &Host, w: u8) -> bool
+    ensures { λ r. ⌜ r ≡ rule9AtWay (view (now (h .entry)) .shape .pages .entry) (view (now (h .entry)) .shape .cache .lineAddress) (view (now (h .entry)) .shape .cache .linePage) (table (view (now (h .entry)) .shape)) w ⌝ }
+{
+    if w == 0 {
+        return first_way(h, stealth_page(h, table_in_force(h)));
+    }
+    host::line_empty(h, STEALTH_LINE + w as usize)
+}
+
+pub fn stealth_begun(h: &Host) -> bool
+    ensures { λ r. ⌜ r ≡ rule9AtHistory (view (now (h .entry)) .shape .cache .history) ⌝ }
+{
+    host::history(h, STEALTH_SET) == 0
+}
+
 pub fn stealth_kept(h: &Host) -> bool
     ensures { λ r. ⌜ r ≡ rule9? (view (now (h .entry)) .shape .pages .entry) (view (now (h .entry)) .shape .cache .lineAddress) (view (now (h .entry)) .shape .cache .linePage) (view (now (h .entry)) .shape .cache .history) (table (view (now (h .entry)) .shape)) ⌝ }
 {
-    let first = first_way(h, stealth_page(h, table_in_force(h)));
-    let second = host::line_empty(h, STEALTH_LINE + 1);
-    first & second & (host::history(h, STEALTH_SET) == 0)
+    stealth_way(h, 0) & stealth_way(h, 1) & stealth_begun(h)
 }
 
 fn through_by(h: &Host, i: u8, p: Ma) -> bool

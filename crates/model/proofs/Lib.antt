@@ -13,3 +13,4 @@ pub mod Saving
 pub mod Pieces
 pub mod PieceSamples
 pub mod ThroughSamples
+pub mod Broken

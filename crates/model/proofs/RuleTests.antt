@@ -182,7 +182,7 @@ away⇔ : (kind entry : List ℕ) (p va : ℕ) → length entry ≡ pages * addr
     → mapsPage kind entry (λ v. not (eqb v va)) p ⇔ ((n : ℕ) × (vb : ℕ) × (vb ≢ va) × Maps kind entry n vb p)
 away⇔ kind entry p va size = mapsPage⇔ kind entry (λ v. not⇔ (eq⇔ v va)) p size
 
-twice⇔ : (kind entry : List ℕ) (p : ℕ) → length entry ≡ pages * addresses
+pub twice⇔ : (kind entry : List ℕ) (p : ℕ) → length entry ≡ pages * addresses
     → mapsTwice kind entry p ⇔ ((m : ℕ) × (va : ℕ) × Maps kind entry m va p × ((n : ℕ) × (vb : ℕ) × (vb ≢ va) × Maps kind entry n vb p))
 unfolding mapsTwice
 twice⇔ kind entry p size =

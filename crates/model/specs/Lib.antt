@@ -33,3 +33,5 @@ pub mod Image
 pub mod Pieces
 pub mod PieceSamples
 pub mod ThroughSamples
+pub mod Broken
+pub mod BrokenSamples

@@ -15,7 +15,7 @@ use Rattle.numbers.specs.declared.calls.Call.{Call}
 use Rattle.numbers.specs.declared.calls.Call.the-variants.{None, Other}
 use Rattle.numbers.specs.declared.calls.CallBytes.{CallBytes}
 use Rattle.numbers.specs.Calls.{pinKindOf, pinNumber, callBytes, bytesOf, sameBytes, callNamed, callOf}
-use Rattle.numbers.proofs.Others.{Others, none-left}
+use Rattle.laws.proofs.Others.{Others, none-left}
 
 -- ---- a pin's kind
 

@@ -1,3 +1,2 @@
 pub mod Leads
-pub mod Others
 pub mod CallNumbers

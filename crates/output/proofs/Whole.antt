@@ -1,6 +1,6 @@
 -- Output buffers as long as the program's hold all that is printed.
 -- Assumes nothing.
-use mathlib.Core.Path.{_≡_, ap, subst, _∙_}
+use mathlib.Core.Path.{_≡_, subst}
 use mathlib.Core.Bool.{not}
 use mathlib.Core.List.{List, [], _∷_, _++_}
 use Prim.Native.Nat.{ℕ, zero, suc, _+_, _*_, _^_, _≤_, _<_}
@@ -17,8 +17,8 @@ use Rattle.model.specs.Journal.{Report, recordsOf, numberAt, valueAt, pasted, r
 use Rattle.model.specs.Image.{ImageAnswer, done, notValid, notImage, loaded}
 use Rattle.model.proofs.Journal.{either, accepted-and-refused}
 use Rattle.journal.proofs.Reports.{form-fits}
-use Rattle.print.specs.Text.{Page, page, typedAll, decimalOf}
-use Rattle.print.proofs.Typing.{typed-fits}
+use Rattle.print.specs.Text.{decimalOf}
+use Rattle.print.proofs.Typing.{whole-text}
 use Rattle.print.proofs.Decimal.{length-decimal}
 use Rattle.output.specs.Output.{titleLine, refusedWord, doneWord, cutWord, numberThen, space, lineEnd, recordLine, recordLines, refusedLine, cutLine, doneLine, reportLines, printed, loadLines}
 use Rattle.output.specs.declared.Printed.{Printed}
@@ -91,13 +91,6 @@ load-most : (a : ImageAnswer) → length (loadLines a) ≤ refusalBytes
 load-most done = omega arith
 load-most notValid = refused-long 1 1 (omega arith)
 load-most notImage = refused-long 16 1 (omega arith)
-
--- what was typed, where the text has its room
-pub whole-text : (d xs : List ℕ) (n : ℕ) (e : List ℕ) → length xs ≤ length d → page e n ≡ typedAll (page d 0) xs
-    → (n ≡ length xs) × (e ≡ xs ++ drop (length xs) d)
-whole-text d xs n e h f =
-    let q = f ∙ typed-fits d xs h in
-    (ap (λ (p : Page). p .place) q, ap (λ (p : Page). p .bytes) q)
 
 -- The output buffer starts with all that is printed, and its rest stays. That the answers are bytes is what their type says.
 pub printed-whole : (s : State) (j b d : List ℕ) {p : Printed} {t : State} {c e : List ℕ} → Prints s j b d p t c e → Small c → outputBytes ≤ length d

@@ -22,7 +22,8 @@ use Rattle.output.specs.declared.stream.Streamed.{Streamed}
 use Rattle.output.specs.Output.{titleLine, doneWord, numberThen, space, lineEnd, recordLine, refusedLine, cutLine, doneLine}
 use Rattle.output.specs.Stream.{countBound, toldRecords, toldAfter, recordLinesFrom, openLines, endLines, becameWhole, ranLines, pieceLines}
 use Rattle.output.specs.Promises.{fed, Streams}
-use Rattle.output.proofs.Whole.{number-long, cut-long, refused-long, whole-text}
+use Rattle.print.proofs.Typing.{whole-text}
+use Rattle.output.proofs.Whole.{number-long, cut-long, refused-long}
 use Rattle.output.proofs.Streaming.{begun-short, begun-most}
 
 -- 20, 3 and 10 digits, two spaces and the line's end

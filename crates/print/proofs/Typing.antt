@@ -98,6 +98,13 @@ pub typed-fits : (b xs : List ℕ) → length xs ≤ length b → typedAll (page
 typed-fits b xs h =
     let e : 0 + length xs ≡ length xs = omega arith in fits-after [] b xs h ∙ ap (page (xs ++ drop (length xs) b)) e
 
+-- The same of what was typed: how many bytes, and the buffer.
+pub whole-text : (d xs : List ℕ) (n : ℕ) (e : List ℕ) → length xs ≤ length d → page e n ≡ typedAll (page d 0) xs
+    → (n ≡ length xs) × (e ≡ xs ++ drop (length xs) d)
+whole-text d xs n e h f =
+    let q = f ∙ typed-fits d xs h in
+    (ap (λ (p : Page). p .place) q, ap (λ (p : Page). p .bytes) q)
+
 -- Where the text is as long as the buffer, the buffer is the text.
 pub typed-whole : (b xs e : List ℕ) (n : ℕ) → length b ≡ length xs → page e n ≡ typedAll (page b 0) xs → e ≡ xs
 typed-whole b xs e n h q =

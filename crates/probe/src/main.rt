@@ -1,4 +1,6 @@
 // Test aid: does tasks from standard input by the proved code, and writes what came of each. docs/ARCHITECTURE.md, "The differential run", has the framing.
+mod checks; // checks.rt: the rules of a machine, and what is printed of an image
+
 use host::Host;
 use host::SIZE;
 use host::WritePolicy;
@@ -31,6 +33,10 @@ const SAVE: u8 = 5;
 const FEED: u8 = 6;
 
 const BEGIN: u8 = 7;
+
+const CHECK: u8 = 8;
+
+const REPORT: u8 = 9;
 
 // The second byte of a task: the input ends with its piece; the machine is started with write-through.
 const LAST: u8 = 1;
@@ -357,6 +363,8 @@ fn task() -> bool {
         SAVE => save_image(room),
         FEED => feed(head[1] == LAST, length, room),
         BEGIN => begin(),
+        CHECK => checks::check(),
+        REPORT => checks::report(length, room),
         _ => return false,
     }
     true

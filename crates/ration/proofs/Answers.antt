@@ -7,7 +7,7 @@ use Prim.Native.Nat.{ℕ}
 use Rattle.model.specs.State.{State}
 use Rattle.host.specs.View.{view, Whole}
 use Rattle.host.proofs.Inverse.{view-inj}
-use Rattle.ration.specs.Promises.{StartsBytes, StepsBytes, RunsBytes, SavesBytes, LoadsBytes, FeedsBytes}
+use Rattle.ration.specs.Promises.{StartsBytes, StepsBytes, RunsBytes, SavesBytes, LoadsBytes, OpensBytes, ChecksBytes, FeedsBytes}
 
 pub one-start : (s : State) (p : ℕ) {n m : ℕ} {x y : List ℕ} → Whole x → Whole y → StartsBytes s p n (view x) → StartsBytes s p m (view y)
     → (n ≡ m) × (x ≡ y)
@@ -32,6 +32,13 @@ one-save s b p q = (p .number ∙ sym (q .number), p .buffer ∙ sym (q .buffer)
 pub one-load : (s : State) (i : List ℕ) {n m : ℕ} {x y : List ℕ} → Whole x → Whole y → LoadsBytes s i n (view x) → LoadsBytes s i m (view y)
     → (n ≡ m) × (x ≡ y)
 one-load s i {x = x} {y = y} h k p q = (p .number ∙ sym (q .number), view-inj x y h k (p .state ∙ sym (q .state)))
+
+pub one-open : (s : State) (i : List ℕ) {n m : ℕ} {x y : List ℕ} → Whole x → Whole y → OpensBytes s i n (view x) → OpensBytes s i m (view y)
+    → (n ≡ m) × (x ≡ y)
+one-open s i {x = x} {y = y} h k p q = (p .number ∙ sym (q .number), view-inj x y h k (p .state ∙ sym (q .state)))
+
+pub one-check : (s : State) (r : ℕ) {n m k l i j : ℕ} → ChecksBytes s r n k i → ChecksBytes s r m l j → (n ≡ m) × (k ≡ l) × (i ≡ j)
+one-check s r p q = (p .number ∙ sym (q .number), p .part ∙ sym (q .part), p .place ∙ sym (q .place))
 
 pub one-feed : (s : State) (k piece : List ℕ) (allowance : ℕ) (last : Bool) (b : List ℕ) {n m : ℕ} {x y l o c d : List ℕ}
     {ran again took retook : ℕ} → Whole x → Whole y → FeedsBytes s k piece allowance last b n (view x) l c ran took

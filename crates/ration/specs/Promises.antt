@@ -11,7 +11,8 @@ use Rattle.model.specs.State.{State}
 use Rattle.model.specs.Fresh.{freshWith}
 use Rattle.model.specs.Records.{wordBytes}
 use Rattle.model.specs.Step.{step}
-use Rattle.model.specs.Image.{imageNumber, loaded, saved}
+use Rattle.model.specs.Image.{imageNumber, opened, loaded, saved}
+use Rattle.model.specs.Broken.{findingNumber, findingPart, findingPlace, firstBroken}
 use Rattle.model.specs.Pieces.{feed}
 use Rattle.model.specs.Journal.{Verdict, Report, verdictNumber, reportOf, answerBytesOf, journal}
 
@@ -54,6 +55,17 @@ pub record SavesBytes (s : State) (b : List ℕ) (n : ℕ) (c : List ℕ) : Type
 pub record LoadsBytes (s : State) (i : List ℕ) (n : ℕ) (t : State) : Type 0 where
   pub number : n ≡ imageNumber (loaded s i .answer)
   pub state : t ≡ loaded s i .state
+
+-- the image i opened on state s: the number n, and state t
+pub record OpensBytes (s : State) (i : List ℕ) (n : ℕ) (t : State) : Type 0 where
+  pub number : n ≡ imageNumber (opened s i .answer)
+  pub state : t ≡ opened s i .state
+
+-- rule r of the state s checked: the number n, the part k and the place i
+pub record ChecksBytes (s : State) (r n k i : ℕ) : Type 0 where
+  pub number : n ≡ findingNumber (firstBroken r s)
+  pub part : k ≡ findingPart (firstBroken r s)
+  pub place : i ≡ findingPlace (firstBroken r s)
 
 -- a piece of a journal on state s, with what is kept, an allowance, whether the input ends, and the answer buffer b: the number n, state t, what is kept
 -- after it, l, the answers c, and how many records it ran and how many bytes it took

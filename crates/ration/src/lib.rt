@@ -16,7 +16,7 @@ ghost use Rattle.model.specs.Valid.{valid?};
 ghost use Rattle.model.specs.Image.{imageBytes};
 ghost use Rattle.model.specs.Pieces.{beginning};
 ghost use Rattle.host.specs.View.{bytes as stateBytes, view};
-ghost use Rattle.ration.specs.Promises.{reportSize, StartsBytes, StepsBytes, RunsBytes, LoadsBytes, SavesBytes, FeedsBytes};
+ghost use Rattle.ration.specs.Promises.{reportSize, StartsBytes, StepsBytes, RunsBytes, LoadsBytes, SavesBytes, OpensBytes, ChecksBytes, FeedsBytes};
 
 // What starting with a policy answers: done, or the number of a state that is not valid.
 const DONE: u8 = 0;
@@ -150,6 +150,26 @@ pub extern "C" fn ration_load(h: &mut Host, image: &[u8]) -> u8
 {
     let loaded = image::load(h, image);
     image::number(loaded)
+}
+
+// The state that the image holds, whatever that is, for a state that is to be checked: 0, or 16 and the state stays.
+#[no_mangle]
+pub extern "C" fn ration_open(h: &mut Host, image: &[u8]) -> u8
+    ensures { λ n. ⌜ OpensBytes (view (now (h .entry))) (now (image .entry)) n (view (now (h .exit))) ⌝ }
+{
+    let opened = image::open(h, image);
+    image::number(opened)
+}
+
+// What a check says of a rule: 0 it holds, 1 it is broken, 2 there is no such rule; and the first part and place where it is broken, 0 without one.
+#[no_mangle]
+pub extern "C" fn ration_broken(h: &Host, rule: u8, part: &mut u8, place: &mut u16) -> u8
+    ensures { λ n. ⌜ ChecksBytes (view (now (h .entry))) rule n (now (part .exit)) (now (place .exit)) ⌝ }
+{
+    let f = broken::first_broken(h, rule);
+    *part = broken::part_of(f);
+    *place = broken::place_of(f);
+    broken::number_of(f)
 }
 
 // No byte of a journal was taken yet, whatever was kept.

@@ -6,7 +6,7 @@ use native.Mathlib.Omega.{arith}
 use lib.ListN.{List·getD-eq-default}
 use Rattle.laws.proofs.Cases.{below?}
 use Rattle.model.specs.Sizes.{kinds}
-use Rattle.numbers.proofs.Others.{Others, none-left}
+use Rattle.laws.proofs.Others.{Others, none-left}
 use Rattle.model.specs.Records.{fields, actionOf, silent}
 
 pub silent-else : (k a b c v : ℕ) → Others k 15 → silent ≡ actionOf (fields k a b c v)

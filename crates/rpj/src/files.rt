@@ -1,6 +1,6 @@
 // The program's words and files: standard input, the image that it starts from, and the one that it saves. ./rpj names the images by two words, of which
-// an empty one stands for no image, and says by a third that the input is run as it arrives, by a fourth that the host is to be write-through. Either
-// may be empty, and is then not said.
+// an empty one stands for no image, and says by a third that the input is run as it arrives, by a fourth that the host is to be write-through, by a fifth
+// that the first image is to be checked. Each of these may be empty, and is then not said.
 use host::Host;
 ghost use mathlib.Core.Path.{_≡_};
 ghost use Prim.Native.Nat.{min};
@@ -14,6 +14,8 @@ const TO: usize = 2;
 const STREAM: usize = 3;
 
 const THROUGH: usize = 4;
+
+const CHECK: usize = 5;
 
 // One byte more than an image has: a longer one is refused alike.
 pub(crate) const IMAGE: usize = image::SIZE + 1;
@@ -37,6 +39,10 @@ pub(crate) fn is_streamed() -> bool {
 
 pub(crate) fn is_through() -> bool {
     is_said(THROUGH)
+}
+
+pub(crate) fn is_checked() -> bool {
+    is_said(CHECK)
 }
 
 // ---- reading

@@ -1,7 +1,8 @@
 // The program: a journal from standard input, on the fresh machine of either policy or on the state of an image, its output to standard output, and the
-// state after it to another image. No contract says what is read or written, so this file, files.rt and stream.rt are to be read: they hand what they read
-// to `output::load`, and to `output::run` or `output::feed`, and write the text and say the status that these answer. A Rattle program has no exit status;
-// it says that of docs/HOST.md, "Journal and program", on a descriptor of its own, which ./rpj reads.
+// state after it to another image; or the check of an image. No contract says what is read or written, so this file, files.rt and stream.rt are to be
+// read: they hand what they read to `output::load`, and to `output::run` or `output::feed`, or to `report::of_image`, and write the text and say the
+// status that these answer. A Rattle program has no exit status; it says that of docs/HOST.md, "Journal and program" and "Checking", on a descriptor of
+// its own, which ./rpj reads.
 mod files; // files.rt: the words of ./rpj, the images that it names, and reading
 mod stream; // stream.rt: a journal that is run as it arrives
 
@@ -9,6 +10,7 @@ use files::ABSENT;
 use files::FAILED;
 use files::IMAGE;
 use files::at_most;
+use files::is_checked;
 use files::is_streamed;
 use files::is_through;
 use files::read_all;
@@ -58,6 +60,16 @@ fn load(h: &mut Host, image: &[u8], got: usize) -> u8 {
     let n = at_most(got, image);
     let mut out = [0u8; REFUSAL];
     let p = output::load(h, &image[..n], &mut out);
+    put(&out[..p.bytes], p.status)
+}
+
+fn check(image: &[u8], got: usize) -> u8 {
+    if got == ABSENT {
+        return fail(b"rpj: wrong use: no image to check\n");
+    }
+    let n = at_most(got, image);
+    let mut out = [0u8; report::SIZE];
+    let p = report::of_image(&image[..n], &mut out);
     put(&out[..p.bytes], p.status)
 }
 
@@ -140,6 +152,9 @@ fn whole() -> u8 {
     let from = read_image(&mut image);
     if from == FAILED {
         return fail(b"rpj: the image cannot be read\n");
+    }
+    if is_checked() {
+        return check(&image, from);
     }
     let mut h: Host = [0; host::SIZE];
     let ran = run_either(&mut h, &image, from);

@@ -1,36 +1,13 @@
 //! The first difference of two results, in words.
 
-use second::bytes::OFFSETS;
+use second::bytes::{FIELDS, OFFSETS};
 use second::hex::to_hex;
 use second::STATE_BYTES;
 
+use crate::checks::{self, ASKED, TOLD};
 use crate::feeds::{Feed, Given};
-use crate::hosts::{Files, Left, TOLD};
+use crate::hosts::{self, Files, Left};
 use crate::task::{Task, ANSWER, NUMBER, RULES, VERDICT};
-
-/// The fields of docs/STATE.md, in order.
-pub const FIELDS: [&str; 20] = [
-    "owner",
-    "kind",
-    "cacheable",
-    "entry",
-    "physical",
-    "free",
-    "current",
-    "call",
-    "callA",
-    "callB",
-    "active",
-    "mode",
-    "lineAddress",
-    "linePage",
-    "history",
-    "slotAddress",
-    "slotPage",
-    "memory",
-    "line",
-    "policy",
-];
 
 /// The number of the field that has this byte of a state.
 pub fn field(at: usize) -> usize {
@@ -62,6 +39,13 @@ pub fn of_results(task: &Task, ours: &[u8], second: &[u8]) -> Option<String> {
         Task::Feed(feed) => format!("{}{}", of_calls(ours, second), call(feed)),
         Task::Begin { kept } => {
             both(&format!("begin over {}", to_hex(kept)), to_hex(ours), to_hex(second))
+        }
+        Task::Check { machine } => {
+            format!("{}\n  machine {}", of_checks(ours, second), to_hex(machine))
+        }
+        Task::Report { image, buffer } => {
+            let start = of_reports(ours, second);
+            format!("{start}\n  {} bytes of buffer\n  image {}", buffer.len(), to_hex(image))
         }
     })
 }
@@ -151,6 +135,30 @@ fn of_calls(ours: &[u8], second: &[u8]) -> String {
     }
 }
 
+/// The first rule number of which another thing is told.
+fn of_checks(ours: &[u8], second: &[u8]) -> String {
+    let told = ours.chunks(TOLD).zip(second.chunks(TOLD)).zip(ASKED);
+    let other = told.into_iter().find(|((ours, second), _)| ours != second);
+    other.map_or("none".into(), |((ours, second), rule)| {
+        let what = format!("rule {rule}: answer, part and place");
+        both(&what, to_hex(ours), to_hex(second))
+    })
+}
+
+/// Status and bytes typed, then the text, then the rest of the buffer.
+fn of_reports(ours: &[u8], second: &[u8]) -> String {
+    let (ours, second) = (checks::Given::of(ours), checks::Given::of(second));
+    let head = |of: &checks::Given| format!("{}, {} bytes", of.status, of.typed);
+    let other = (0..ours.buffer.len()).find(|at| ours.buffer[*at] != second.buffer[*at]);
+    match (of_texts(ours.text(), second.text()), other) {
+        (Some(text), _) => text,
+        (None, Some(at)) if head(&ours) == head(&second) => {
+            both(&format!("byte {at} of the buffer"), ours.buffer[at], second.buffer[at])
+        }
+        _ => both("status and bytes typed", head(&ours), head(&second)),
+    }
+}
+
 fn call(feed: &Feed) -> String {
     let Feed { machine, kept, piece, allowance, last, buffer } = feed;
     format!(
@@ -195,7 +203,7 @@ pub fn of_left(ours: &Left, second: &Left) -> Option<String> {
         return None;
     }
     let status = |left: &Left| String::from_utf8_lossy(&left.status).into_owned();
-    let told = |left: &Left| left.message == TOLD;
+    let told = |left: &Left| left.message == hosts::TOLD;
     let text = of_texts(&ours.text, &second.text);
     Some(text.unwrap_or_else(|| {
         if ours.status != second.status {

@@ -32,7 +32,7 @@ pub const FROM_IMAGE: [usize; 6] = [0, 2, 3, 4, 6, 7];
 
 /// A message on standard error, or none.
 pub const TOLD: [u8; 1] = [1];
-const NOT_TOLD: [u8; 1] = [0];
+pub const NOT_TOLD: [u8; 1] = [0];
 
 /// A run of the program in a folder of its own.
 #[derive(Clone)]

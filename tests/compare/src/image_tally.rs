@@ -6,7 +6,10 @@ use std::fmt;
 use second::damage::broken_alone;
 use second::{fresh, fresh_with, valid, Mach, Policy, State, IMAGE_BYTES, IMAGE_HEADER, STEALTH};
 
-use crate::difference::{field, FIELDS};
+use second::bytes::FIELDS;
+
+use crate::counts::Counts;
+use crate::difference::field;
 use crate::task::Task;
 use crate::versions::Version;
 
@@ -31,7 +34,7 @@ const MACHINES: [&str; 4] = [
 const NOT_VALID: usize = 3;
 
 /// Lengths that are wrong, of an image with the right header or of a buffer.
-const LENGTHS: [&str; 5] =
+pub const LENGTHS: [&str; 5] =
     ["no byte", "one byte too few", "fewer bytes", "one byte too many", "more bytes"];
 
 /// What a state has that was loaded or saved.
@@ -79,7 +82,7 @@ enum Met {
 }
 
 /// That it is version 2 is not said.
-fn old(version: Version) -> &'static str {
+pub fn old(version: Version) -> &'static str {
     match version {
         Version::One => "version 1, ",
         Version::Two => "",
@@ -151,7 +154,7 @@ fn all_of(by: By, version: Version) -> Vec<Met> {
 }
 
 pub struct ImageTally {
-    counts: BTreeMap<Met, usize>,
+    counts: Counts<Met>,
     /// Each place of an image of each version that alone was changed, opened and loaded.
     places: BTreeMap<(By, Version), Vec<usize>>,
     pub tasks: usize,
@@ -161,14 +164,14 @@ impl Default for ImageTally {
     fn default() -> ImageTally {
         let both = Version::BOTH.map(|version| [(By::Open, version), (By::Load, version)]);
         let places = both.into_iter().flatten().map(|of| (of, vec![0; of.1.bytes()])).collect();
-        ImageTally { counts: all().into_iter().map(|met| (met, 0)).collect(), places, tasks: 0 }
+        ImageTally { counts: Counts::of(all()), places, tasks: 0 }
     }
 }
 
 impl ImageTally {
     /// The counts of which none may be 0.
     pub fn needed(&mut self) -> Vec<&mut usize> {
-        self.counts.values_mut().chain(self.places.values_mut().flatten()).collect()
+        self.counts.all().chain(self.places.values_mut().flatten()).collect()
     }
 
     pub fn note(&mut self, task: &Task, number: u8) {
@@ -180,7 +183,7 @@ impl ImageTally {
             _ => Vec::new(),
         };
         for met in met {
-            *self.counts.entry(met).or_default() += 1;
+            self.counts.add(met);
         }
     }
 
@@ -197,14 +200,11 @@ impl ImageTally {
 
     /// What was met, in words, but for the places.
     pub fn met(&self) -> Vec<String> {
-        let met = self.counts.iter().filter(|(_, count)| **count > 0);
-        met.map(|(met, _)| met.to_string()).collect()
+        self.counts.met()
     }
 
     pub fn print(&self) {
-        for (met, count) in &self.counts {
-            println!("{count:>8} {met}");
-        }
+        self.counts.print();
         for ((by, version), places) in &self.places {
             let met = places.iter().filter(|count| **count > 0).count();
             println!("{met:>8} {by:?}: {}bytes of an image changed alone", old(*version));
@@ -213,15 +213,12 @@ impl ImageTally {
 
     /// What never happened, and what can't have.
     pub fn missing(&self) -> Vec<String> {
-        let never = self.counts.iter().filter(|(_, count)| **count == 0);
-        let mut missing: Vec<String> = never.map(|(met, _)| format!("never: {met}")).collect();
+        let mut missing = self.counts.never();
         for ((by, version), places) in &self.places {
             let (of, never) = (old(*version), (0..places.len()).filter(|at| places[*at] == 0));
             missing.extend(never.map(|at| format!("never: {by:?}, {of}byte {at} changed alone")));
         }
-        let all = all();
-        let others = self.counts.keys().filter(|met| !all.contains(met));
-        missing.extend(others.map(|met| format!("met, and cannot be: {met}")));
+        missing.extend(self.counts.others());
         missing
     }
 }
@@ -254,7 +251,7 @@ fn which_machine(state: &State) -> usize {
 }
 
 /// None for the right length.
-fn which_length(version: Version, length: usize) -> Option<usize> {
+pub fn which_length(version: Version, length: usize) -> Option<usize> {
     let longer = length > version.bytes();
     match length.abs_diff(version.bytes()) {
         0 => None,

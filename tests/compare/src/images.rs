@@ -23,8 +23,8 @@ const VERSIONS: [u16; 12] =
 
 /// Lengths of images and buffers: none to a few bytes, all around the right ones, and far ones
 /// that agree with these in some of their bits.
-const NEAR: [Range<usize>; 2] = [0..13, 4_700..4_801];
-const FAR: [usize; 14] = [
+pub const NEAR: [Range<usize>; 2] = [0..13, 4_700..4_801];
+pub const FAR: [usize; 14] = [
     256,
     OLD_BYTES - 4096,
     IMAGE_BYTES - 4096,
@@ -257,7 +257,7 @@ fn with(image: &[u8], at: usize, byte: u8) -> Vec<u8> {
 }
 
 /// Each byte alone, with every other value; marks and versions as a whole.
-fn other_headers(right: [u8; 5]) -> Vec<[u8; 5]> {
+pub fn other_headers(right: [u8; 5]) -> Vec<[u8; 5]> {
     let mut others = Vec::new();
     for at in 0..right.len() {
         for byte in (0..=255).filter(|byte| *byte != right[at]) {

@@ -3,6 +3,13 @@
 
 mod blind;
 mod chains;
+mod check_met;
+mod check_plan;
+mod check_shapes;
+mod check_tally;
+mod checked;
+mod checks;
+mod counts;
 mod crowd;
 mod declined;
 mod difference;
@@ -15,6 +22,7 @@ mod images;
 mod journals;
 mod missed;
 mod noted;
+mod noted_checks;
 mod noted_pieces;
 mod piece_met;
 mod piece_tally;
@@ -95,7 +103,8 @@ fn everything(probe: Program, rpj: Option<Program>) -> Result<(), String> {
     let start = Instant::now();
     let mut tally = Tally::default();
     let journals = journals::all();
-    let (printed, hosts, streams) = rpj.map_or(Ok((0, 0, 0)), |rpj| by_rpj(rpj, &journals))?;
+    let [printed, hosts, streams, checked] =
+        rpj.map_or(Ok([0; 4]), |rpj| by_rpj(rpj, &journals))?;
     by_probe(probe, &journals, &mut tally)?;
     let trips = trips::all(probe)?;
     let chains = programs::asked(probe, |ask| chains::all(ask, &mut tally.pieces))?;
@@ -108,16 +117,20 @@ fn everything(probe: Program, rpj: Option<Program>) -> Result<(), String> {
     if !missing.is_empty() {
         return Err(missing.join("\n"));
     }
-    let Tally { journals, pairs, records, states, valid, images, pieces, .. } = tally;
+    let Tally { journals, pairs, records, states, valid, images, pieces, checks, .. } = tally;
     println!(
         "no difference: {journals} journals with {records} records ({pairs} pairs, on both \
          policies), {states} states ({} not valid), {} images opened, loaded or saved, {trips} runs \
          with a save and a load between, {} pieces fed, {chains} journals in pieces to their ends, \
-         {printed} outputs of rpj, {hosts} runs of it with images, {streams} with journals as they \
-         arrive, {} s",
+         {} machines checked, {} images reported ({} with a rule broken), {printed} outputs of rpj, \
+         {hosts} runs of it with images, {streams} with journals as they arrive, {checked} images \
+         checked by it, {} s",
         states - valid,
         images.tasks,
         pieces.calls,
+        checks.checks,
+        checks.reports,
+        checks.broken,
         start.elapsed().as_secs()
     );
     Ok(())
@@ -126,7 +139,7 @@ fn everything(probe: Program, rpj: Option<Program>) -> Result<(), String> {
 /// All tasks that do not depend on what ours gave before.
 fn by_probe(probe: Program, journals: &[Journal], tally: &mut Tally) -> Result<(), Stop> {
     // one after the other, since all of them at once are many bytes
-    let parts: [&dyn Fn() -> Vec<Item>; 9] = [
+    let parts: [&dyn Fn() -> Vec<Item>; 12] = [
         &|| plan::runs(journals),
         &plan::rooms,
         &|| plan::given(120),
@@ -136,6 +149,9 @@ fn by_probe(probe: Program, journals: &[Journal], tally: &mut Tally) -> Result<(
         &|| images::whole(journals),
         &images::changed,
         &pieces::calls,
+        &check_plan::damaged,
+        &check_plan::aimed,
+        &check_plan::others,
     ];
     for items in parts {
         same(probe, &items(), tally, None)?;
@@ -143,10 +159,10 @@ fn by_probe(probe: Program, journals: &[Journal], tally: &mut Tally) -> Result<(
     Ok(())
 }
 
-/// How many journals it printed, how many it ran from images or to images, and how many as they arrived.
-fn by_rpj(rpj: Program, journals: &[Journal]) -> Result<(usize, usize, usize), String> {
+/// How many journals it printed, how many it ran from images or to images, how many as they arrived, and how many images it checked.
+fn by_rpj(rpj: Program, journals: &[Journal]) -> Result<[usize; 4], String> {
     let printed = print_all(rpj, journals.iter().chain(&journals::longer()))?;
-    Ok((printed, hosts::all(rpj)?, streams::all(rpj)?))
+    Ok([printed, hosts::all(rpj)?, streams::all(rpj)?, checked::all(rpj)?])
 }
 
 fn too_few(tally: &Tally, printed: Option<usize>) -> Vec<String> {
@@ -157,6 +173,8 @@ fn too_few(tally: &Tally, printed: Option<usize>) -> Vec<String> {
         ("states", tally.states - tally.valid, 5_000),
         ("images", tally.images.tasks, 20_000),
         ("pieces fed", tally.pieces.calls, 10_000),
+        ("machines checked", tally.checks.checks, 2_000),
+        ("images of which a rule is reported as broken", tally.checks.broken, 20_000),
         ("journals printed", printed.unwrap_or(100), 100),
     ];
     let short = least.iter().filter(|(_, count, least)| count < least);

@@ -2,6 +2,7 @@
 
 use second::{fresh, step, Policy, HEADER};
 
+use crate::checked::CheckedTally;
 use crate::events::Events;
 use crate::host_tally::HostTally;
 use crate::tally::Tally;
@@ -51,7 +52,7 @@ pub fn each() -> Result<usize, String> {
             return Err(format!("event {left_out} was left out, and not missed"));
         }
     }
-    let hosts = hosts(false)? + hosts(true)?;
+    let hosts = hosts(false)? + hosts(true)? + checked()?;
     for form in [whole, continued, judged] {
         drops(form)?;
     }
@@ -66,6 +67,19 @@ fn hosts(streams: bool) -> Result<usize, String> {
         *tally.needed()[left_out] = 0;
         if tally.missing().len() != 1 {
             return Err(format!("a run of rpj, {left_out}, was left out, and not missed"));
+        }
+    }
+    Ok(counts)
+}
+
+/// Each check by rpj left out.
+fn checked() -> Result<usize, String> {
+    let counts = CheckedTally::full().needed().len();
+    for left_out in 0..counts {
+        let mut tally = CheckedTally::full();
+        *tally.needed()[left_out] = 0;
+        if tally.missing().len() != 1 {
+            return Err(format!("a check by rpj, {left_out}, was left out, and not missed"));
         }
     }
     Ok(counts)

@@ -1,11 +1,10 @@
 //! What was met by feed and begin, counted from our results.
 
-use std::collections::BTreeMap;
-
 use second::damage::broken_alone;
 use second::journal::MOST_RECORDS;
 use second::{fresh, fresh_with, Kept, Policy, State, HEADER, STATE_BYTES};
 
+use crate::counts::Counts;
 use crate::feeds::{Feed, Given, ALL};
 use crate::piece_met::{all, Met, Way, DONE, GROWN, HEADER_BYTES, MOST_BEGUN};
 
@@ -13,20 +12,20 @@ use crate::piece_met::{all, Met, Way, DONE, GROWN, HEADER_BYTES, MOST_BEGUN};
 const POLICY: usize = STATE_BYTES - 1;
 
 pub struct PieceTally {
-    counts: BTreeMap<Met, usize>,
+    counts: Counts<Met>,
     pub calls: usize,
 }
 
 impl Default for PieceTally {
     fn default() -> PieceTally {
-        PieceTally { counts: all().into_iter().map(|met| (met, 0)).collect(), calls: 0 }
+        PieceTally { counts: Counts::of(all()), calls: 0 }
     }
 }
 
 impl PieceTally {
     /// The counts of which none may be 0.
     pub fn needed(&mut self) -> Vec<&mut usize> {
-        self.counts.values_mut().collect()
+        self.counts.all().collect()
     }
 
     pub fn note(&mut self, feed: &Feed, ours: &[u8]) {
@@ -54,28 +53,22 @@ impl PieceTally {
     }
 
     fn add(&mut self, met: Met) {
-        *self.counts.entry(met).or_default() += 1;
+        self.counts.add(met);
     }
 
     /// What was met, in words.
     pub fn met(&self) -> Vec<String> {
-        let met = self.counts.iter().filter(|(_, count)| **count > 0);
-        met.map(|(met, _)| met.to_string()).collect()
+        self.counts.met()
     }
 
     pub fn print(&self) {
-        for (met, count) in &self.counts {
-            println!("{count:>8} {met}");
-        }
+        self.counts.print();
     }
 
     /// What never happened, and what can't have.
     pub fn missing(&self) -> Vec<String> {
-        let never = self.counts.iter().filter(|(_, count)| **count == 0);
-        let mut missing: Vec<String> = never.map(|(met, _)| format!("never: {met}")).collect();
-        let all = all();
-        let others = self.counts.keys().filter(|met| !all.contains(met));
-        missing.extend(others.map(|met| format!("met, and cannot be: {met}")));
+        let mut missing = self.counts.never();
+        missing.extend(self.counts.others());
         missing
     }
 }

@@ -7,16 +7,18 @@ use std::process::{Child, ChildStdin, ChildStdout, Command, Stdio};
 use std::sync::mpsc::{channel, Receiver, RecvTimeoutError};
 use std::time::Duration;
 
+use crate::checked::Checked;
 use crate::hosts::{Files, Host, Left};
 use crate::task::{Item, Task};
 
 /// Before each piece of input, so that a read can come back with less than it asked for.
 const PAUSE: Duration = Duration::from_micros(50);
 
-/// The word that has `rpj` run a journal as it arrives, behind those for images, and the one behind it that asks for write-through; each
-/// empty where it is not said.
+/// The word that has `rpj` run a journal as it arrives, behind those for images, the one behind it that asks for write-through, and the
+/// last, by which the image that it would start from is checked; each empty where it is not said.
 const STREAM: &str = "stream";
 const THROUGH: &str = "through";
+const CHECK: &str = "check";
 
 /// So long a line may take to come.
 const PATIENCE: Duration = Duration::from_secs(30);
@@ -135,12 +137,27 @@ fn in_room(program: Program, host: &Host, room: &Room) -> Result<Child, String> 
         "" => PathBuf::new(),
         name => room.images().join(name),
     };
+    let [from, to] = host.words().map(named);
+    let stream = host.stream.map_or("", |_| STREAM).into();
+    let through = if host.through { THROUGH } else { "" }.into();
+    with_words(program, room, &[from, to, stream, through])
+}
+
+/// What `rpj` leaves where it checks an image; nothing comes as its input, nor its end.
+pub fn checked(program: Program, run: &Checked) -> Result<Left, String> {
+    let room = Room::new(&run.files).map_err(|e| e.to_string())?;
+    let none = PathBuf::new;
+    let words = [room.images().join(run.name), none(), none(), none(), CHECK.into()];
+    let text = in_step(with_words(program, &room, &words)?, &[], false)?;
+    room.left(text).map_err(|e| e.to_string())
+}
+
+fn with_words(program: Program, room: &Room, words: &[PathBuf]) -> Result<Child, String> {
     // sh alone can give a program its descriptor 3
     let child = Command::new("sh")
         .args(["-c", "exec \"$@\" 2>\"$0/message\" 3>\"$0/status\""])
         .args([&room.0, program.start, program.path])
-        .args(host.words().map(named))
-        .args([host.stream.map_or("", |_| STREAM), if host.through { THROUGH } else { "" }])
+        .args(words)
         .stdin(Stdio::piped())
         .stdout(Stdio::piped())
         .spawn();

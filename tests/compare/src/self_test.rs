@@ -1,16 +1,16 @@
 //! The comparison itself: results with one byte changed must be seen.
 
 use crate::chains::Chain;
-use crate::hosts::{self, Left};
+use crate::hosts::{self, Files, Left};
 use crate::images;
 use crate::journals::{self, Journal};
 use crate::policies::{self, Pair};
 use crate::programs::Program;
 use crate::tally::Tally;
-use crate::task::Item;
+use crate::task::{Item, Task};
 use crate::trips::Trip;
-use crate::{chains, difference, missed, noted, noted_pieces, pieces, plan, programs, same};
-use crate::{streams, trips, Spot};
+use crate::{chains, check_plan, checked, difference, missed, noted, noted_checks, noted_pieces};
+use crate::{pieces, plan, programs, same, streams, trips, Spot};
 
 /// A few tasks of each form.
 fn items() -> Vec<Item> {
@@ -21,6 +21,7 @@ fn items() -> Vec<Item> {
     items.extend(plan::damaged(1, 3));
     items.extend(images::few());
     items.extend(pieces::few());
+    items.extend(check_plan::few());
     items
 }
 
@@ -54,6 +55,7 @@ pub fn run(probe: Program, rpj: Option<Program>) -> Result<(), String> {
     println!("{} counts left out, each of them missed", missed::each()?);
     println!("{} tasks with images, each of them noted as what it is", noted::each()?);
     println!("{} calls with pieces, each of them noted as what it is", noted_pieces::each()?);
+    println!("{} checks, each of them noted as what it is", noted_checks::each()?);
     Ok(())
 }
 
@@ -131,34 +133,54 @@ const PARTS: [Part; 4] = [
     |left, at| left.files.values_mut().flatten().nth(at),
 ];
 
-/// Each byte of what a run with images leaves changed; then a file more, and a file less.
+/// Each byte of what a run with images leaves changed; then a file more, and a file less. Of what checks an image too.
 fn left(rpj: Program) -> Result<usize, String> {
     let mut changed = 0;
     for host in hosts::few().into_iter().chain(streams::few()) {
-        let (mut ours, second) = (programs::host(rpj, &host)?, host.expected());
-        if let Some(text) = difference::of_left(&ours, &second) {
-            return Err(format!("rpj with images differs as it is: {text}"));
-        }
-        let mut seen = |ours: &Left| {
-            changed += 1;
-            difference::of_left(ours, &second).map(|_| ()).ok_or("a change of rpj's was not seen")
-        };
-        for part in PARTS {
-            let mut at = 0;
-            while let Some(byte) = part(&mut ours, at) {
-                let before = std::mem::replace(byte, *byte ^ 1);
-                seen(&ours)?;
-                part(&mut ours, at).into_iter().for_each(|byte| *byte = before);
-                at += 1;
-            }
-        }
-        ours.files.insert("more".into(), Vec::new());
-        seen(&ours)?;
-        ours.files.retain(|name, _| host.files.contains_key(name));
-        ours.files.pop_last();
-        seen(&ours)?;
+        changed += each_of(programs::host(rpj, &host)?, &host.expected(), &host.files)?;
+    }
+    for run in checked::few() {
+        changed += each_of(programs::checked(rpj, &run)?, &run.expected(), &run.files)?;
     }
     Ok(changed)
+}
+
+fn each_of(mut ours: Left, second: &Left, before: &Files) -> Result<usize, String> {
+    if let Some(text) = difference::of_left(&ours, second) {
+        return Err(format!("rpj with images differs as it is: {text}"));
+    }
+    let mut changed = 0;
+    let mut seen = |ours: &Left| {
+        changed += 1;
+        difference::of_left(ours, second).map(|_| ()).ok_or("a change of rpj's was not seen")
+    };
+    for part in PARTS {
+        let mut at = 0;
+        while let Some(byte) = part(&mut ours, at) {
+            let before = std::mem::replace(byte, *byte ^ 1);
+            seen(&ours)?;
+            part(&mut ours, at).into_iter().for_each(|byte| *byte = before);
+            at += 1;
+        }
+    }
+    ours.files.insert("more".into(), Vec::new());
+    seen(&ours)?;
+    ours.files.retain(|name, _| before.contains_key(name));
+    ours.files.pop_last();
+    seen(&ours)?;
+    Ok(changed)
+}
+
+/// The first task, one of the middle, and the last of each of some kinds.
+fn spoilt(items: &[Item]) -> Vec<usize> {
+    let kinds: [fn(&Task) -> bool; 4] = [
+        |task| matches!(task, Task::Feed(_)),
+        |task| matches!(task, Task::Begin { .. }),
+        |task| matches!(task, Task::Check { .. }),
+        |task| matches!(task, Task::Report { .. }),
+    ];
+    let last = |of: fn(&Task) -> bool| items.iter().rposition(|item| of(&item.task));
+    [0, items.len() / 2].into_iter().chain(kinds.into_iter().filter_map(last)).collect()
 }
 
 /// A whole run has no difference, and with one byte of one result changed it stops at that very byte;
@@ -166,7 +188,7 @@ fn left(rpj: Program) -> Result<usize, String> {
 pub fn spoiled(probe: Program) -> Result<(), String> {
     let items = items();
     same(probe, &items, &mut Tally::default(), None)?;
-    for task in [0, items.len() / 2, items.len() - 3, items.len() - 1] {
+    for task in spoilt(&items) {
         let size = items[task].task.result_size();
         for byte in [0, size / 2, size - 1] {
             let spot = Spot { task, byte };

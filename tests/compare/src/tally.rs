@@ -1,5 +1,6 @@
 //! What was met, counted from our results; the table of it, and what is missing in it.
 
+use crate::check_tally::CheckTally;
 use crate::image_tally::ImageTally;
 use crate::piece_tally::PieceTally;
 use crate::task::{On, Task, RULES, VERDICT};
@@ -57,6 +58,7 @@ pub struct Tally {
     with_others: [usize; second::RULES],
     pub images: ImageTally,
     pub pieces: PieceTally,
+    pub checks: CheckTally,
     pub valid: usize,
     pub journals: usize,
     /// Journals on both policies, ours against ours.
@@ -92,7 +94,7 @@ impl Tally {
         needed.extend(self.alone.iter_mut().chain(&mut self.with_others).enumerate());
         let needed = needed.into_iter().map(|(_, count)| count);
         let others = self.images.needed().into_iter().chain(self.pieces.needed());
-        needed.chain(others).chain([&mut self.pairs]).collect()
+        needed.chain(others).chain(self.checks.needed()).chain([&mut self.pairs]).collect()
     }
 
     pub fn note(&mut self, task: &Task, ours: &[u8]) {
@@ -107,6 +109,8 @@ impl Tally {
             }
             Task::Feed(feed) => self.pieces.note(feed, ours),
             Task::Begin { kept } => self.pieces.note_begin(kept),
+            Task::Check { .. } => self.checks.note_check(ours),
+            Task::Report { image, .. } => self.checks.note_report(image, ours),
         }
     }
 
@@ -174,6 +178,7 @@ impl Tally {
         println!("{:<12}{}", "with others", cells(&self.with_others));
         self.images.print();
         self.pieces.print();
+        self.checks.print();
     }
 
     /// What never happened, and what can't have.
@@ -207,6 +212,7 @@ impl Tally {
         }
         missing.extend(self.images.missing());
         missing.extend(self.pieces.missing());
+        missing.extend(self.checks.missing());
         missing
     }
 }

@@ -3,6 +3,7 @@
 use second::image::{load, open, save};
 use second::{begin, fresh_with, rules, run_journal, step, Kept, Policy, State, KEPT, STATE_BYTES};
 
+use crate::checks::{checked, reported, CHECKED, REPORTED};
 use crate::feeds::Feed;
 
 /// What a journal is run on.
@@ -37,6 +38,10 @@ pub enum Task {
     Feed(Feed),
     /// What is kept, made anew.
     Begin { kept: Kept },
+    /// Each rule of a machine, and numbers that are none's.
+    Check { machine: Vec<u8> },
+    /// The text of `--check` of an image, into a buffer.
+    Report { image: Vec<u8>, buffer: Vec<u8> },
 }
 
 /// A task, and what made it.
@@ -78,6 +83,8 @@ impl Task {
                 [&head[..], &feed.body()].concat()
             }
             Task::Begin { kept } => [&head(7, &[], &[])[..], kept].concat(),
+            Task::Check { machine } => [&head(8, &[], &[])[..], machine].concat(),
+            Task::Report { image, buffer } => [&head(9, image, buffer)[..], image, buffer].concat(),
         }
     }
 
@@ -97,6 +104,8 @@ impl Task {
             Task::Save { buffer, .. } => NUMBER + buffer.len() + STATE_BYTES,
             Task::Feed(feed) => feed.result_size(),
             Task::Begin { .. } => KEPT,
+            Task::Check { .. } => CHECKED,
+            Task::Report { buffer, .. } => REPORTED + buffer.len(),
         }
     }
 
@@ -110,6 +119,8 @@ impl Task {
             Task::Save { machine, buffer } => saved(machine, buffer),
             Task::Feed(feed) => feed.expected(),
             Task::Begin { kept } => begun(*kept),
+            Task::Check { machine } => checked(machine),
+            Task::Report { image, buffer } => reported(image, buffer),
         }
     }
 }

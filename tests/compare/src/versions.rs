@@ -27,6 +27,12 @@ impl Version {
         }
     }
 
+    /// That of an image; None for what is none.
+    pub fn of(image: &[u8]) -> Option<Version> {
+        let right = |v: &Version| image.starts_with(&v.header()) && image.len() == v.bytes();
+        Version::BOTH.into_iter().find(right)
+    }
+
     pub fn image_of(self, state: &State) -> Vec<u8> {
         match self {
             Version::One => old_image_of(state),

@@ -5,6 +5,30 @@ use crate::state::{fresh, Guest, Kind, Mode, Owner, Page, Pending, Policy, State
 
 pub const STATE_BYTES: usize = 4755;
 
+/// The fields of docs/STATE.md, in order.
+pub const FIELDS: [&str; 20] = [
+    "owner",
+    "kind",
+    "cacheable",
+    "entry",
+    "physical",
+    "free",
+    "current",
+    "call",
+    "callA",
+    "callB",
+    "active",
+    "mode",
+    "lineAddress",
+    "linePage",
+    "history",
+    "slotAddress",
+    "slotPage",
+    "memory",
+    "line",
+    "policy",
+];
+
 /// Field offsets in the order of STATE.md, and the end.
 pub const OFFSETS: [usize; 21] = [
     0,

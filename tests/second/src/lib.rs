@@ -2,11 +2,14 @@
 //!
 //! Written from the rules and their readings, as they stood before docs/HOST.md had them (docs/DECISIONS.md), and from docs/STATE.md and
 //! docs/RULES.md alone, for comparison with another implementation; drop, 6 of del, journals in pieces and
-//! the write policy from docs/HOST.md, images from it and docs/IMAGE.md.
+//! the write policy from docs/HOST.md, images from it and docs/IMAGE.md; the first broken place of a rule, and the
+//! text of `--check`, from docs/HOST.md, "Checking", and the parts, places and words of docs/RULES.md.
 
+pub mod broken;
 pub mod bytes;
 pub mod cache;
 pub mod cases;
+pub mod check;
 pub mod checks;
 pub mod damage;
 pub mod gen;
@@ -24,7 +27,9 @@ pub mod state;
 pub mod step;
 pub mod stream;
 
+pub use broken::{first_broken, Broken, Judged, Where};
 pub use bytes::STATE_BYTES;
+pub use check::check;
 pub use image::{image_of, old_image_of, IMAGE_BYTES, IMAGE_HEADER, OLD_BYTES, OLD_HEADER};
 pub use journal::{run_journal, Report, HEADER};
 pub use numbers::{GuestId, Mach, Phys, Place, Virt, STEALTH};

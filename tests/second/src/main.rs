@@ -1,4 +1,4 @@
-//! `second run [FROM TO [through]]|stream [FROM TO [through]]|state [through]|rules|step|cases|gen SEED COUNT PROFILE|damage SEED COUNT`
+//! `second run [FROM TO [through]]|stream [FROM TO [through]]|check IMAGE|state [through]|rules|step|cases|gen SEED COUNT PROFILE|damage SEED COUNT`
 
 use std::fs;
 use std::io::{self, BufRead, Read, Write};
@@ -8,7 +8,7 @@ use std::process::ExitCode;
 use second::hex::{from_hex, to_hex};
 use second::journal::answer_bytes;
 use second::program::Ended;
-use second::{cases, damage, fresh_with, gen, program, rules, run_journal};
+use second::{cases, check, damage, fresh_with, gen, program, rules, run_journal};
 use second::{step, Policy, Start, State, Stream, RULES, STATE_BYTES};
 
 type Outcome = Result<ExitCode, String>;
@@ -16,8 +16,8 @@ type Outcome = Result<ExitCode, String>;
 /// FROM and TO name images; an empty word names none. through asks for write-through. stream runs a journal as it arrives, however
 /// long it is; gen writes one.
 const USAGE: &str =
-    "usage: second run [FROM TO [through]] | stream [FROM TO [through]] | state [through] | rules \
-                     | step | cases | gen SEED COUNT deep|near|noise | damage SEED COUNT";
+    "usage: second run [FROM TO [through]] | stream [FROM TO [through]] | check IMAGE | state [through] \
+                     | rules | step | cases | gen SEED COUNT deep|near|noise | damage SEED COUNT";
 
 const THROUGH: &str = "through";
 
@@ -37,6 +37,7 @@ fn main() -> ExitCode {
         ["stream"] => stream("", "", false),
         ["stream", from, to] => stream(from, to, false),
         ["stream", from, to, THROUGH] => stream(from, to, true),
+        ["check", image] => checked(image),
         ["state"] => state(false),
         ["state", THROUGH] => state(true),
         ["rules"] => each_line(rules_line),
@@ -75,6 +76,11 @@ fn run(from: &str, to: &str, through: bool) -> Outcome {
 fn read_image(from: &str) -> Result<Option<Vec<u8>>, String> {
     let image = || fs::read(from).map_err(|e| e.to_string());
     (!from.is_empty()).then(image).transpose()
+}
+
+/// Reads nothing but the image.
+fn checked(image: &str) -> Outcome {
+    end(check(&fs::read(image).map_err(|e| e.to_string())?), "")
 }
 
 /// Prints what is left to be printed, then saves.

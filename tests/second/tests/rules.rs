@@ -3,56 +3,7 @@
 mod support;
 
 use second::{damage, rules, valid, Policy, State, RULES};
-use support::Machine;
-
-const OWNER: usize = 0;
-const KIND: usize = 64;
-const MARK: usize = 128;
-const ENTRY: usize = 192;
-const PHYSICAL: usize = 4288;
-const FREE: usize = 4352;
-const CURRENT: usize = 4360;
-const CALL: usize = 4364;
-const CALL_A: usize = 4368;
-const CALL_B: usize = 4372;
-const ACTIVE: usize = 4376;
-const MODE: usize = 4377;
-const LINE: usize = 4378;
-const LINE_PAGE: usize = 4394;
-const HISTORY: usize = 4410;
-const SLOT: usize = 4418;
-const SLOT_PAGE: usize = 4426;
-const MEMORY: usize = 4434;
-const LINE_VALUE: usize = 4690;
-const POLICY: usize = 4754;
-
-fn entry(table: usize, va: usize) -> usize {
-    ENTRY + 64 * table + va
-}
-
-/// Guest 0: page 8 at 0 (dirty line), 9 at 7, 10 at 1 and 9, table 11, 12 unmapped.
-/// Guest 1: page 13 at 7, 14 at 8 (line). Guest 0 runs, with a TLB entry for 0.
-fn base(policy: Policy) -> Vec<u8> {
-    let mut m = Machine::started(policy);
-    for (pa, kind) in [(1, 0), (2, 0), (3, 0), (4, 1), (5, 0)] {
-        m.served(4, pa, kind);
-    }
-    for (va, pa) in [(0, 1), (7, 2), (1, 3), (9, 3)] {
-        m.served(1, va, pa);
-    }
-    m.write(0, 5);
-    m.go_to(1);
-    for (pa, va) in [(1, 7), (2, 8)] {
-        m.served(4, pa, 0);
-        m.served(1, va, pa);
-    }
-    m.read(8);
-    m.go_to(0);
-    assert_eq!(m.read(0), 5);
-    assert_eq!(m.line(7, 0), Some((7, 9, 0)));
-    assert_eq!((m.line(0, 0), m.line(0, 1)), (Some((0, 8, 5)), Some((8, 14, 0))));
-    m.0.to_bytes()
-}
+use support::base::*;
 
 /// Changes bytes of the write-back base; exactly the named rules must be broken.
 fn breaks(changes: &[(usize, u8)], expected: &[usize]) {

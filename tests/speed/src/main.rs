@@ -7,7 +7,7 @@ use ration::{journal, Host, WritePolicy, HEADER, RECORD};
 use speed::cases::{self, Case, RECORDS};
 use speed::clock::{side_by_side, Timed, Times, ROUNDS};
 use speed::machines::{self, Named};
-use speed::parts::{InJournals, InPieces};
+use speed::parts::{InJournals, InPieces, Judged};
 use speed::same::run_all;
 
 fn main() -> ExitCode {
@@ -52,7 +52,8 @@ fn started(case: &Case, policy: WritePolicy) -> Result<Vec<Named>, String> {
 }
 
 /// The case's journal on each machine, with write-back; on the proved one a journal without a record, which says what a run costs
-/// before its first one, nearly all of it the test of validity; and there the journal in parts, and with write-through.
+/// before its first one, nearly all of it the test of validity; there the journal in parts, and with write-through; and its start
+/// judged and checked, with no journal.
 fn prepare(case: &Case) -> Result<Vec<Timed>, String> {
     let [machines, others] = WritePolicy::ALL.map(|policy| started(case, policy));
     let (machines, (_, through)) = (machines?, others?.swap_remove(0));
@@ -67,6 +68,9 @@ fn prepare(case: &Case) -> Result<Vec<Timed>, String> {
     let mut all: Vec<Timed> = runs.collect();
     all.insert(1, timed("  without a record", Box::new(start.clone()), &journal(&[])));
     all.insert(2, timed("  with write-through", through, &case.timed));
+    for (name, by_rules) in [("  checked, rule by rule", true), ("  judged", false)] {
+        all.insert(2, timed(name, Box::new(Judged::new(start.clone(), by_rules)), &journal(&[])));
+    }
     for (name, machine) in in_parts(case, &start)?.into_iter().skip(1).rev() {
         all.insert(2, timed(name, machine, &case.timed));
     }

@@ -1,4 +1,4 @@
-//! The proved machine on a journal in parts: as journals of their own, and as pieces of one.
+//! The proved machine on a journal in parts: as journals of their own, and as pieces of one; and where it runs none, but is judged or checked.
 
 use ration::{Host, Kept, Refusal, Report, ANSWER, HEADER, RECORD, SIZE};
 
@@ -65,6 +65,33 @@ impl Machine for InPieces {
         all.refused = all.taken - all.accepted;
         all.left_over = kept.begun().len() as u32;
         Ok(all)
+    }
+
+    fn bytes(&self) -> [u8; SIZE] {
+        *self.host.bytes()
+    }
+}
+
+/// No journal is run: whether the host is valid, as one answer, or rule by rule.
+pub struct Judged {
+    host: Host,
+    by_rules: bool,
+}
+
+impl Judged {
+    pub fn new(host: Host, by_rules: bool) -> Judged {
+        Judged { host, by_rules }
+    }
+}
+
+impl Machine for Judged {
+    fn run(&mut self, _: &[u8], _: &mut [u8]) -> Result<Report, Refusal> {
+        let valid = match self.by_rules {
+            true => self.host.check().iter().all(|finding| finding.holds()),
+            false => self.host.valid(),
+        };
+        assert!(valid, "the host that is timed is not valid");
+        Ok(Report { taken: 0, accepted: 0, refused: 0, left_over: 0 })
     }
 
     fn bytes(&self) -> [u8; SIZE] {

@@ -1,4 +1,4 @@
--- Way 0 by the stealth page of the table in force; way 1 and the history as they are at the start.
+-- Both ways of set 7, and its history.
 -- Assumes nothing.
 use Rattle.host.specs.View.{view}
 use Rattle.lines.proofs.Stealth.{rule9-is}
@@ -6,35 +6,20 @@ use borrow.Author.Needs.{needs}
 use Rattle.lines.proofs.stealth_kept.Statement.{statement}
 use Rattle.lines.proofs.stealth_kept.Tie as tie
 
-table-in-force-requires : tie.Need-table-in-force-requires
-table-in-force-requires c κs = search needs
+stealth-way-requires : tie.Need-stealth-way-requires
+stealth-way-requires c κs = search needs
 
-stealth-page-requires : tie.Need-stealth-page-requires
-stealth-page-requires c κs = search needs
+stealth-way-requires-2 : tie.Need-stealth-way-requires-2
+stealth-way-requires-2 c κs = search needs
 
-first-way-requires : tie.Need-first-way-requires
-first-way-requires c κs = search needs
-
-add-line-empty : tie.Need-add-line-empty
-add-line-empty c = search needs
-
-line-empty-requires : tie.Need-line-empty-requires
-line-empty-requires c κs = search needs
-
-history-requires : tie.Need-history-requires
-history-requires c κs = search needs
+stealth-begun-requires : tie.Need-stealth-begun-requires
+stealth-begun-requires c κs = search needs
 
 returns : tie.Need-returns
-returns c = rw (c .history .ensures, c .before .line-empty .ensures, c .before .before .first-way .ensures, c .before .before .before .stealth-page .ensures, c .before .before .before .before .table-in-force .ensures) (rule9-is (view (c .before .before .before .before .before .args .h .now)))
+returns c =
+    rw (c .stealth-begun .ensures, c .before .stealth-way2 .ensures, c .before .before .stealth-way .ensures)
+    (rule9-is (view (c .before .before .before .args .h .now)))
 
 pub stealth-kept-spec : {M : Type 1} → statement M
 stealth-kept-spec =
-    tie.close
-    (tie.spec
-    table-in-force-requires
-    stealth-page-requires
-    first-way-requires
-    add-line-empty
-    line-empty-requires
-    history-requires
-    returns)
+    tie.close (tie.spec stealth-way-requires stealth-way-requires-2 stealth-begun-requires returns)

@@ -20,17 +20,14 @@ line-page-requires c κs = search needs
 placed-at-requires : tie.Need-placed-at-requires
 placed-at-requires c κs = search needs
 
-line-value-requires : tie.Need-line-value-requires
-line-value-requires c κs = search needs
-
-implies-requires : tie.Need-implies-requires
-implies-requires c κs = search needs
+line-zero-requires : tie.Need-line-zero-requires
+line-zero-requires c κs = search needs
 
 returns : tie.Need-returns
 unfolding lineInRange
 returns c =
-    let a = c .before .before .before .before .before .before .before .before .args in
-    rw (c .before .implies .ensures, c .before .before .line-value .ensures, c .before .before .before .before .placed-at .ensures, c .before .before .before .before .before .line-page .ensures, c .before .before .before .before .before .before .line-empty .ensures, c .before .before .before .before .before .before .before .line-address .ensures, placed-is (at (view (a .h .now) .shape .cache .linePage) (a .i)))
+    let a = c .before .before .before .before .before .before .args in
+    rw (c .line-zero .ensures, c .before .before .placed-at .ensures, c .before .before .before .line-page .ensures, c .before .before .before .before .line-empty .ensures, c .before .before .before .before .before .line-address .ensures, placed-is (at (view (a .h .now) .shape .cache .linePage) (a .i)))
 
 pub line-in-range-spec : {M : Type 1} → statement M
 line-in-range-spec =
@@ -40,6 +37,5 @@ line-in-range-spec =
     line-empty-requires
     line-page-requires
     placed-at-requires
-    line-value-requires
-    implies-requires
+    line-zero-requires
     returns)

@@ -20,14 +20,14 @@ slot-page-requires c κs = search needs
 placed-at-requires : tie.Need-placed-at-requires
 placed-at-requires c κs = search needs
 
-implies-requires : tie.Need-implies-requires
-implies-requires c κs = search needs
+slot-zero-requires : tie.Need-slot-zero-requires
+slot-zero-requires c κs = search needs
 
 returns : tie.Need-returns
 unfolding slotInRange
 returns c =
-    let a = c .before .before .before .before .before .before .before .args in
-    rw (c .before .implies .ensures, c .before .before .before .placed-at .ensures, c .before .before .before .before .slot-page .ensures, c .before .before .before .before .before .slot-empty .ensures, c .before .before .before .before .before .before .slot-address .ensures, placed-is (at (view (a .h .now) .shape .tlb .slotPage) (a .i)))
+    let a = c .before .before .before .before .before .before .args in
+    rw (c .slot-zero .ensures, c .before .before .placed-at .ensures, c .before .before .before .slot-page .ensures, c .before .before .before .before .slot-empty .ensures, c .before .before .before .before .before .slot-address .ensures, placed-is (at (view (a .h .now) .shape .tlb .slotPage) (a .i)))
 
 pub slot-in-range-spec : {M : Type 1} → statement M
 slot-in-range-spec =
@@ -37,5 +37,5 @@ slot-in-range-spec =
     slot-empty-requires
     slot-page-requires
     placed-at-requires
-    implies-requires
+    slot-zero-requires
     returns)

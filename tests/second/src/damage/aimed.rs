@@ -24,6 +24,7 @@ pub const AIMED: [&[Damage]; RULES] = [
         guest_page_kind,
         odd_owner_marked_free,
         another_host_page,
+        t::entry_of_no_guest,
     ],
     &[unregister, register_twice, register_foreign, swap_registered, register_nowhere],
     &[

@@ -2,7 +2,12 @@
 
 mod aimed;
 mod buffers;
+mod hits;
+mod hits_buffers;
+mod hits_tables;
+mod places;
 mod policies;
+mod pool;
 mod tables;
 
 use crate::bytes::OFFSETS;
@@ -13,6 +18,8 @@ use crate::rules::{rules, RULES};
 use crate::state::{Policy, State};
 
 pub use aimed::{Damage, AIMED};
+pub use places::{at_places, named, parts, targets, Target, UNBREAKABLE};
+pub use pool::{broken, in_pairs, pairs};
 
 /// How far runs go before a new one is begun.
 const RUN_LENGTH: usize = 1500;

@@ -94,6 +94,18 @@ pub fn odd_owners(s: &mut State, rng: &mut Rng) -> Option<()> {
     put_entry(s, table, va, Place::At(target))
 }
 
+/// A table without owner, or of the host, that maps such a page: rule 2 is broken, and 4 is not.
+pub fn entry_of_no_guest(s: &mut State, rng: &mut Rng) -> Option<()> {
+    let owner = rng.pick(&[Owner::Nobody, Owner::Host])?;
+    let table = any_page(s, rng, |page| page.owner == owner)?;
+    let target = any_page(s, rng, |page| page.owner == owner)?;
+    (table != target).then_some(())?;
+    s.page_mut(table).kind = Kind::Table;
+    s.page_mut(target).kind = Kind::Data;
+    let va = any_address(rng, false)?;
+    put_entry(s, table, va, Place::At(target))
+}
+
 /// Mostly a guest that isn't active, so that rules 8 and 9 are spared.
 fn some_guest(s: &State, rng: &mut Rng) -> GuestId {
     let guest = any_guest(rng);

@@ -1,7 +1,9 @@
 //! What the tests share: a machine with short names, and journals.
 #![allow(dead_code)]
 
+pub mod base;
 pub mod binary;
+pub mod named;
 pub mod pieces;
 
 use second::hex::from_hex;

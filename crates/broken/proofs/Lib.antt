@@ -1,0 +1,5 @@
+pub mod Parts
+pub mod PlaceTests
+pub mod Sequence
+pub mod Readings
+pub mod Bytes

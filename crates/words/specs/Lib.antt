@@ -1,0 +1,3 @@
+pub mod Words
+pub mod Forms
+pub mod Samples
