@@ -79,7 +79,7 @@ enum {
 };
 
 /* Whether a virtual address is reserved, so that nothing is mapped there: 15, 23, 31, 39, 47, and 48 to 63. Uses va three times. */
-#define RATION_RESERVED(va) ((va) >= RATION_FIRST_HOST_VA || ((va) % 8 == RATION_STEALTH && (va) != RATION_STEALTH))
+#define RATION_RESERVED(va) ((va) >= RATION_FIRST_HOST_VA || ((va) % RATION_SETS == RATION_STEALTH && (va) != RATION_STEALTH))
 
 /* What a record does (its kind), its arguments, and who must have control: 'running' is the active guest, 'waiting' the host. On a
  * fresh machine guest 0 is active and running. hcall and ret_ctrl give the host control, and it keeps it until chmod.

@@ -349,6 +349,6 @@ mod tests {
         );
         println!("{count:?} chains, {calls} calls");
         assert!(count.is_ok());
-        assert!(!tally.missing().iter().any(|met| met.contains("calls: ")));
+        assert!(!tally.counts.missing().iter().any(|met| met.contains("calls: ")));
     }
 }

@@ -11,7 +11,7 @@ use crate::image_tally::which_length;
 use crate::versions::Version;
 
 pub struct CheckTally {
-    counts: Counts<Met>,
+    pub counts: Counts<Met>,
     pub checks: usize,
     pub reports: usize,
     /// Images of which a rule is broken.
@@ -26,18 +26,13 @@ impl Default for CheckTally {
 }
 
 impl CheckTally {
-    /// The counts of which none may be 0.
-    pub fn needed(&mut self) -> Vec<&mut usize> {
-        self.counts.all().collect()
-    }
-
     pub fn note_check(&mut self, ours: &[u8]) {
         self.checks += 1;
         let mut rules = Vec::new();
         for (told, number) in ours.chunks(TOLD).zip(ASKED) {
             let place = u16::from_le_bytes([told[2], told[3]]);
             match told[0] {
-                2 => self.add(Met::NoRule(number)),
+                2 => self.counts.add(Met::NoRule(number)),
                 broken if !NO_RULES.contains(&number) => {
                     rules.push((broken == 1).then_some((told[1].into(), place.into())));
                 }
@@ -55,8 +50,8 @@ impl CheckTally {
             None => self.refused(image, &given),
             Some(version) => self.told(version, image, &given),
         };
-        met.into_iter().for_each(|met| self.add(met));
-        self.add(Met::Room(Version::of(image).is_none(), room(given.buffer.len(), whole)));
+        met.into_iter().for_each(|met| self.counts.add(met));
+        self.counts.add(Met::Room(Version::of(image).is_none(), room(given.buffer.len(), whole)));
     }
 
     /// Of what is no image: the one thing that is wrong with it, of either version.
@@ -93,40 +88,20 @@ impl CheckTally {
     fn note_rules(&mut self, by: By, rules: &[Option<Place>]) {
         for (rule, place) in (1..).zip(rules) {
             let Some((part, place)) = *place else {
-                self.add(Met::Holds(by, rule));
+                self.counts.add(Met::Holds(by, rule));
                 continue;
             };
-            self.add(Met::Broken(by, rule));
+            self.counts.add(Met::Broken(by, rule));
             let places = PLACES.get(rule - 1).and_then(|parts| parts.get(part));
             places.into_iter().for_each(|places| {
-                self.add(Met::Place(by, rule, part, At::of(place, *places)));
+                self.counts.add(Met::Place(by, rule, part, At::of(place, *places)));
             });
         }
         match broken(rules)[..] {
-            [rule] => self.add(Met::Alone(by, rule)),
-            [one, other] => self.add(Met::Pair(by, [one, other])),
+            [rule] => self.counts.add(Met::Alone(by, rule)),
+            [one, other] => self.counts.add(Met::Pair(by, [one, other])),
             _ => {}
         }
-    }
-
-    fn add(&mut self, met: Met) {
-        self.counts.add(met);
-    }
-
-    /// What was met, in words.
-    pub fn met(&self) -> Vec<String> {
-        self.counts.met()
-    }
-
-    pub fn print(&self) {
-        self.counts.print();
-    }
-
-    /// What never happened, and what can't have.
-    pub fn missing(&self) -> Vec<String> {
-        let mut missing = self.counts.never();
-        missing.extend(self.counts.others());
-        missing
     }
 }
 

@@ -48,4 +48,9 @@ impl<Met: Ord + Clone + fmt::Display> Counts<Met> {
         let others = self.counts.keys().filter(|met| !self.needed.contains(met));
         others.map(|met| format!("met, and cannot be: {met}")).collect()
     }
+
+    /// What never happened, and what can't have.
+    pub fn missing(&self) -> Vec<String> {
+        [self.never(), self.others()].concat()
+    }
 }

@@ -155,7 +155,7 @@ fn refused() -> Vec<Report> {
 /// All that was noted, but that rules hold and that numbers are none's, in any order.
 fn exactly(tally: &CheckTally, expected: &[&str]) -> Result<(), String> {
     let quiet = |text: &String| !text.ends_with(" holds") && !text.ends_with(" is no rule");
-    let mut met: Vec<String> = tally.met().into_iter().filter(quiet).collect();
+    let mut met: Vec<String> = tally.counts.met().into_iter().filter(quiet).collect();
     let mut expected: Vec<String> = expected.iter().map(|text| text.to_string()).collect();
     met.sort();
     expected.sort();

@@ -205,7 +205,7 @@ pub fn each() -> Result<usize, String> {
     for (feed, number, more) in &calls {
         let mut tally = PieceTally::default();
         tally.note(feed, &feed.expected());
-        let met = tally.met();
+        let met = tally.counts.met();
         let more = more.iter().map(|text| format!("feed: {number}, {text}"));
         let expected: Vec<String> = [format!("feed: {number}")].into_iter().chain(more).collect();
         if met != expected {

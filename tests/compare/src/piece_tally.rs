@@ -12,7 +12,7 @@ use crate::piece_met::{all, Met, Way, DONE, GROWN, HEADER_BYTES, MOST_BEGUN};
 const POLICY: usize = STATE_BYTES - 1;
 
 pub struct PieceTally {
-    counts: Counts<Met>,
+    pub counts: Counts<Met>,
     pub calls: usize,
 }
 
@@ -23,15 +23,10 @@ impl Default for PieceTally {
 }
 
 impl PieceTally {
-    /// The counts of which none may be 0.
-    pub fn needed(&mut self) -> Vec<&mut usize> {
-        self.counts.all().collect()
-    }
-
     pub fn note(&mut self, feed: &Feed, ours: &[u8]) {
         self.calls += 1;
         let given = Given::of(ours);
-        self.add(Met::Number(given.number));
+        self.counts.add(Met::Number(given.number));
         let at_hand = AtHand::of(feed);
         let met = match given.number {
             0 => at_hand.done(&given),
@@ -40,36 +35,16 @@ impl PieceTally {
             15 => at_hand.no_room(),
             _ => Vec::new(),
         };
-        met.into_iter().for_each(|met| self.add(met));
+        met.into_iter().for_each(|met| self.counts.add(met));
     }
 
     pub fn note_begin(&mut self, kept: &Kept) {
         let zeros = kept.iter().all(|byte| *byte == 0);
-        self.add(Met::Begin(if zeros { 0 } else { 1 + (kept[0] != 255) as usize }));
+        self.counts.add(Met::Begin(if zeros { 0 } else { 1 + (kept[0] != 255) as usize }));
     }
 
     pub fn note_way(&mut self, way: Way) {
-        self.add(Met::Way(way));
-    }
-
-    fn add(&mut self, met: Met) {
-        self.counts.add(met);
-    }
-
-    /// What was met, in words.
-    pub fn met(&self) -> Vec<String> {
-        self.counts.met()
-    }
-
-    pub fn print(&self) {
-        self.counts.print();
-    }
-
-    /// What never happened, and what can't have.
-    pub fn missing(&self) -> Vec<String> {
-        let mut missing = self.counts.never();
-        missing.extend(self.counts.others());
-        missing
+        self.counts.add(Met::Way(way));
     }
 }
 

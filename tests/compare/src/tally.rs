@@ -93,8 +93,8 @@ impl Tally {
         needed.extend(verdicts.filter(|(n, _)| OF_NO_KIND.contains(n)));
         needed.extend(self.alone.iter_mut().chain(&mut self.with_others).enumerate());
         let needed = needed.into_iter().map(|(_, count)| count);
-        let others = self.images.needed().into_iter().chain(self.pieces.needed());
-        needed.chain(others).chain(self.checks.needed()).chain([&mut self.pairs]).collect()
+        let others = self.images.needed().into_iter().chain(self.pieces.counts.all());
+        needed.chain(others).chain(self.checks.counts.all()).chain([&mut self.pairs]).collect()
     }
 
     pub fn note(&mut self, task: &Task, ours: &[u8]) {
@@ -177,8 +177,8 @@ impl Tally {
         println!("{:<12}{}", "alone", cells(&self.alone));
         println!("{:<12}{}", "with others", cells(&self.with_others));
         self.images.print();
-        self.pieces.print();
-        self.checks.print();
+        self.pieces.counts.print();
+        self.checks.counts.print();
     }
 
     /// What never happened, and what can't have.
@@ -211,8 +211,8 @@ impl Tally {
             missing.push("no journal was run on both policies".into());
         }
         missing.extend(self.images.missing());
-        missing.extend(self.pieces.missing());
-        missing.extend(self.checks.missing());
+        missing.extend(self.pieces.counts.missing());
+        missing.extend(self.checks.counts.missing());
         missing
     }
 }
