@@ -102,7 +102,7 @@ module _ {ℓ} {A : Type ℓ} (f : ℕ → A → Bool) (d : A) where
           place = omega (arith, h.place);
           high = omega (arith, h.high);
           found = λ w. rw (add-suc i k, ← (suc-add i k)) (h.found (omega arith));
-          before = λ j. elim j [
+          before = λ j. elim j as (λ m. m < suc k → f (i + m) (get_or (x ∷ l) m d) ≡ false) [
             | zero ↦ λ a. rw (add-zero i) e
             | suc m ↦ λ a. rw (add-suc i m, ← (suc-add i m)) (h.before m (omega arith))
           ];

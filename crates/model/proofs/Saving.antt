@@ -148,6 +148,8 @@ Within (n ∷ ns) (b ∷ bs) (p ∷ ps) = Below p n b × Within ns bs ps
 
 within_at : (ns bs : List ℕ) (ps : List (List ℕ)) → Within ns bs ps → (f k : ℕ) → k < size ns f → at (part ps f) k < at bs f
 within_at [] bs ps w f k h = absurd (omega arith)
+within_at (n ∷ ns) [] ps w f k h = elim w [ ]
+within_at (n ∷ ns) (b ∷ bs) [] w f k h = elim w [ ]
 within_at (n ∷ ns) (b ∷ bs) (p ∷ ps) w zero k h = w.0 k h
 within_at (n ∷ ns) (b ∷ bs) (p ∷ ps) w (suc f) k h = within_at ns bs ps w.1 f k h
 

@@ -3,6 +3,7 @@
 // read: they hand what they read to `output::load`, and to `output::run` or `output::feed`, or to `report::of_image`, and write the text and say the
 // status that these answer. A Rattle program has no exit status; it says that of docs/HOST.md, "Journal and program" and "Checking", on a descriptor of
 // its own, which ./rpj reads.
+#![tactic(auto)]
 mod files; // files.rt: the words of ./rpj, the images that it names, and reading
 mod stream; // stream.rt: a journal that is run as it arrives
 
