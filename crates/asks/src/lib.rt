@@ -203,7 +203,7 @@ pub fn here(h: &Host, a: Pa) -> Lead
 // ---- the refusal of an action
 
 // An action's kind and what it names: an address, a physical address, a pin's kind, a guest. Where it names none of them, a number that no row asks for.
-#[derive(Drop)]
+#[derive(Clone, Copy)]
 struct Named(u8, Va, Pa, PinKind, Guest);
 
 mod checks;

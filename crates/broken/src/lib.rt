@@ -12,7 +12,7 @@ use places::{call_kept, current_table, held, page_kept, registered};
 use ranges::{call_fits, line_zero, number_in_range, slot_zero};
 
 // The rule holds; it is broken, first at a part and a place in it; there is no such rule.
-#[derive(Drop)]
+#[derive(Clone, Copy)]
 pub enum Finding {
     Holds,
     Broken(u8, u16),
@@ -20,7 +20,7 @@ pub enum Finding {
 }
 
 // The parts of the rules, in their order; the numbers are those of a field.
-#[derive(Drop)]
+#[derive(Clone, Copy)]
 enum Part {
     Calls,
     Pages,

@@ -15,7 +15,7 @@ pub use lines::{access, fill, take_out, take_out_page};
 pub const WAYS: usize = host::WAYS;
 
 // A line: its address, what it holds of a page, and its value.
-#[derive(Drop)]
+#[derive(Clone, Copy)]
 pub struct Line {
     pub address: Va,
     pub page: Held,
@@ -23,14 +23,14 @@ pub struct Line {
 }
 
 // A set: its ways and its history.
-#[derive(Drop)]
+#[derive(Clone, Copy)]
 pub struct Set {
     pub ways: [Line; WAYS],
     pub history: u8,
 }
 
 // What an access is for: to read, or to write a value.
-#[derive(Drop)]
+#[derive(Clone, Copy)]
 pub enum Purpose {
     Read,
     Write(u32),

@@ -124,7 +124,7 @@ pub use values::whole;
 pub type Host = [u8; SIZE];
 
 // Whether a write to a line writes memory too.
-#[derive(Drop)]
+#[derive(Clone, Copy)]
 pub enum WritePolicy {
     Back,
     Through,
@@ -133,7 +133,7 @@ pub enum WritePolicy {
 // ---- fields
 
 // Where a field stands.
-#[derive(Drop)]
+#[derive(Clone, Copy)]
 struct Field {
     start: usize,
     size: usize,

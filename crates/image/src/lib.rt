@@ -12,7 +12,7 @@ ghost use Rattle.image.specs.Promises.{answer_from, Begun, Opens, Loads, Saves};
 use host::Host;
 
 // done, or refused: the state is not valid; mark, version or length is not that of an image
-#[derive(Drop)]
+#[derive(Clone, Copy)]
 pub enum Answer {
     Done,
     NotValid,

@@ -11,7 +11,7 @@ use host::Host;
 use reader::Found;
 use steps::Ran;
 
-#[derive(Drop)]
+#[derive(Clone, Copy)]
 pub struct Report {
     pub taken: usize,
     pub accepted: usize,
@@ -20,7 +20,7 @@ pub struct Report {
 }
 
 // the journal was run, or refused with a number
-#[derive(Drop)]
+#[derive(Clone, Copy)]
 pub enum Verdict {
     Done(Report),
     Refused(u8),

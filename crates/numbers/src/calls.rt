@@ -20,14 +20,14 @@ pub const CALL_UNPIN: u8 = 5;
 pub const CALLS: u8 = 6;
 
 // What a pin makes of the page.
-#[derive(Drop)]
+#[derive(Clone, Copy)]
 pub enum PinKind {
     Data,
     Table,
 }
 
 // A call with the arguments of its action; or bytes that are none.
-#[derive(Drop)]
+#[derive(Clone, Copy)]
 pub enum Call {
     None,
     New(Va, Pa),
@@ -39,7 +39,7 @@ pub enum Call {
 }
 
 // A call as it is stored, and as a record has it: its number and its arguments, unused ones zero.
-#[derive(Drop)]
+#[derive(Clone, Copy)]
 pub struct CallBytes {
     pub number: u8,
     pub a: u8,

@@ -11,29 +11,29 @@ pub use calls::{
 };
 
 // A machine page, a virtual address, a physical address of a guest, a guest.
-#[derive(Drop)]
+#[derive(Clone, Copy)]
 pub struct Ma(pub u8);
 
-#[derive(Drop)]
+#[derive(Clone, Copy)]
 pub struct Va(pub u8);
 
-#[derive(Drop)]
+#[derive(Clone, Copy)]
 pub struct Pa(pub u8);
 
-#[derive(Drop)]
+#[derive(Clone, Copy)]
 pub struct Guest(pub u8);
 
 pub const PAGES: u8 = 64;
 
 // What an entry, a physical place, a line or a TLB slot leads to.
-#[derive(Drop)]
+#[derive(Clone, Copy)]
 pub enum Lead {
     To(Ma),
     Nowhere,
 }
 
 // What such a place holds, damaged ones too: the page plus one, 0 for none. Only `host` makes it of a byte and opens it.
-#[derive(Drop)]
+#[derive(Clone, Copy)]
 pub struct Held(pub u8);
 
 fn lead_of(e: u8) -> Lead

@@ -16,7 +16,7 @@ use journal::{Report, Verdict};
 pub use stream::{Streamed, Told, feed};
 
 // How many bytes were typed, and the status with which a program that prints them ends, as a digit.
-#[derive(Drop)]
+#[derive(Clone, Copy)]
 pub struct Printed {
     pub bytes: usize,
     pub status: u8,

@@ -19,14 +19,14 @@ use reader::HEADER;
 use std::num::wrapping_add_u64;
 
 // How many records were accepted and refused so far, modulo 2^64.
-#[derive(Drop)]
+#[derive(Clone, Copy)]
 pub struct Told {
     pub accepted: u64,
     pub refused: u64,
 }
 
 // How many bytes were typed, the status so far, as a digit, how many bytes of the piece were taken, and what was told with this call.
-#[derive(Drop)]
+#[derive(Clone, Copy)]
 pub struct Streamed {
     pub bytes: usize,
     pub status: u8,

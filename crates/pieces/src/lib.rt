@@ -22,7 +22,7 @@ pub const KEPT: usize = kept::COUNTS + kept::BEGUN;
 pub type Kept = [u8; KEPT];
 
 // A call's number, how many records it ran, and how many bytes of the piece it took.
-#[derive(Drop)]
+#[derive(Clone, Copy)]
 pub struct Fed {
     pub number: u8,
     pub records: usize,

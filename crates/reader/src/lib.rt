@@ -10,21 +10,21 @@ pub const HEADER: usize = 8;
 // Bytes of a record.
 pub const RECORD: usize = 8;
 
-#[derive(Drop)]
+#[derive(Clone, Copy)]
 pub struct Reader<'a> {
     pub journal: &'a [u8],
     pub position: usize,
 }
 
 // A record and where it starts, or the end and how many bytes are left over.
-#[derive(Drop)]
+#[derive(Clone, Copy)]
 pub enum Found {
     Record(usize),
     End(usize),
 }
 
 // What was found at a position, and the position after it.
-#[derive(Drop)]
+#[derive(Clone, Copy)]
 pub struct Turned {
     pub found: Found,
     pub position: usize,

@@ -15,7 +15,7 @@ use host::{
 // ---- the table
 
 // What a kind asks: the mode; the call; a from a_from on and below a_below, and b likewise.
-#[derive(Drop)]
+#[derive(Clone, Copy)]
 pub struct Row {
     pub mode: u8,
     pub need: u8,
@@ -229,7 +229,7 @@ pub fn kind_of_call(c: u8) -> u8
 
 // ---- actions
 
-#[derive(Drop)]
+#[derive(Clone, Copy)]
 pub enum Action {
     Silent,
     Read(Va),
@@ -249,7 +249,7 @@ pub enum Action {
     Drop(Guest),
 }
 
-#[derive(Drop)]
+#[derive(Clone, Copy)]
 pub enum Decoded {
     Is(Action),
     Bad,

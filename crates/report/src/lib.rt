@@ -11,7 +11,7 @@ use broken::Finding;
 use host::Host;
 
 // How many bytes were typed, and the status with which a program that prints them ends, as a digit.
-#[derive(Drop)]
+#[derive(Clone, Copy)]
 pub struct Printed {
     pub bytes: usize,
     pub status: u8,

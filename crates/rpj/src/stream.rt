@@ -19,7 +19,7 @@ const ANSWERS: usize = steps::ANSWER * RECORDS;
 const OUTPUT: usize = 36 * RECORDS + 67;
 
 // What came of a turn: whether another follows, the status so far, and what was told.
-#[derive(Drop)]
+#[derive(Clone, Copy)]
 struct Turn {
     goes_on: bool,
     status: u8,

@@ -30,7 +30,7 @@ const SETS: u8 = host::SETS as u8;
 
 const SLOTS: u8 = host::SLOTS as u8;
 
-#[derive(Drop)]
+#[derive(Clone, Copy)]
 enum Test {
     Held,
     Registered,
@@ -49,7 +49,7 @@ enum Test {
     Through,
 }
 
-#[derive(Drop)]
+#[derive(Clone, Copy)]
 enum EntryTest {
     Own,
     Range,

@@ -10,7 +10,7 @@ ghost use Rattle.seek.specs.Leads.{sought, key_at};
 use host::{Guest, Host, Ma, Pa, Va};
 
 // What is sought among a guest's physical addresses: page p at another than a, or at any.
-#[derive(Drop)]
+#[derive(Clone, Copy)]
 pub enum Sought {
     HeldAgain(Guest, Pa, Ma),
     HeldAt(Guest, Ma),

@@ -16,14 +16,14 @@ use perform::perform;
 use records::{Action, Decoded};
 
 // done with a value, or refused with a number
-#[derive(Drop)]
+#[derive(Clone, Copy)]
 pub enum Answer {
     Done(u32),
     Refused(u8),
 }
 
 // of a run: how many records were taken and how many of these accepted, or the number of the refusal
-#[derive(Drop)]
+#[derive(Clone, Copy)]
 pub enum Ran {
     Took(usize, usize),
     Refused(u8),

@@ -15,7 +15,7 @@ use reader::Found;
 pub(crate) const RECORD: usize = reader::RECORD;
 
 // what a record counts among the accepted, and where the next one starts
-#[derive(Drop)]
+#[derive(Clone, Copy)]
 struct Moved {
     counted: usize,
     position: usize,

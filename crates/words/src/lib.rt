@@ -29,7 +29,7 @@ const NAME_STARTS: [usize; FIELDS + 1] = [
 ];
 
 // What the places of a part are.
-#[derive(Drop)]
+#[derive(Clone, Copy)]
 enum Form {
     Guest,
     Page,
