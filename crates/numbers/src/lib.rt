@@ -1,5 +1,6 @@
 // Numbers that are never mixed, and what bytes mean by themselves, whichever host they are of: to what a place leads, and which call is meant.
 #![tactic(auto)]
+
 mod calls; // calls and their bytes
 
 ghost use Rattle.std.specs.Prelude.{◌≡◌, eqb};

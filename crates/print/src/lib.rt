@@ -1,5 +1,6 @@
 // Text into lent bytes, from a place on: a byte, bytes, a number in decimal. Each answers the place after it; what has no room is left out.
 #![tactic(auto)]
+
 ghost use Rattle.std.specs.Prelude.{◌≡◌, ◌^◌, ◌<◌};
 ghost use Rattle.print.specs.Text.{page, typed, typed_all, digit, places_of, decimal_of};
 
