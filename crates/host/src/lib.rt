@@ -1,6 +1,7 @@
 // The host's state as lent bytes: where each field stands (docs/STATE.md), one getter and one setter for each, and the numbers that address them.
 // A getter answers 0 past the end of its field, and a setter changes nothing there.
 #![tactic(auto)]
+
 mod calls; // pending calls
 mod layout; // where each field stands
 mod lines; // the cache's lines and histories, the TLB's slots
