@@ -1,6 +1,7 @@
 // The reader walks the journal in place: a struct that holds the journal and a position, and thin functions over it.
 // Each takes the struct apart and leaves the work to a function of two numbers. Callers use `turn`, whose parameters are plain.
 #![tactic(auto)]
+
 ghost use Rattle.std.specs.Prelude.{◌≡◌, ◌-◌, length};
 ghost use Rattle.reader.specs.Walk.{found_at, moved_at, reader_at, moved_of, turn_at};
 
