@@ -4,3 +4,4 @@ pub mod Accesses
 pub mod Cleared
 pub mod Answers
 pub mod Through
+pub mod OneWay

@@ -1,5 +1,6 @@
 // One set of the cache as an array of lines, taken by value, one way replaced, handed back; loaded from the host's bytes and put back there.
 #![tactic(auto)]
+
 mod lines;
 
 ghost use Rattle.std.specs.Prelude.{◌≡◌, ◌≤◌, ◌<◌, ltb};

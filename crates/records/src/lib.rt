@@ -1,5 +1,6 @@
 // Records: the table of kinds (mode, call needed, limits of a and b), and the action that a record's eight bytes are.
 #![tactic(auto)]
+
 ghost use Rattle.std.specs.Prelude.{◌≡◌, ◌&&◌, ◌+◌, ◌*◌, ◌^◌, ◌<◌, ltb, leb, eqb};
 ghost use Rattle.laws.specs.Choice.{pick};
 ghost use Rattle.model.specs.Sizes.{byte_bound, calls};

@@ -1,5 +1,6 @@
 // Searches among places, and what they read.
 #![tactic(auto)]
+
 ghost use Rattle.std.specs.Prelude.{◌≡◌, ◌+◌, ◌<◌};
 ghost use Rattle.laws.specs.Choice.{◌⇒◌};
 ghost use Rattle.laws.specs.Search.{some_below};

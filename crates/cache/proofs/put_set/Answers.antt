@@ -9,7 +9,7 @@ use Rattle.cache.proofs.Whole.{ways_none, ways_more, ways_all}
 use Rattle.cache.proofs.put_set.Goals as goal
 
 pub loop-w-init : goal.loop-w-init
-loop-w-init c = let a = c.args in (omega arith, ways_none (view a.h.now) a.k a.t3)
+loop-w-init c = let a = c.args in (omega arith, ways_none (view a.h.now) a.k a.s)
 
 pub loop-w-preserved : goal.loop-w-preserved
 loop-w-preserved c =

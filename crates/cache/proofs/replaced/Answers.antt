@@ -1,42 +1,10 @@
 -- Way w is stored in its turn, and nothing in the others'.
 -- Assumes nothing.
-use mathlib.Core.Path.{◌≡◌, sym, ◌∙◌}
-use mathlib.Core.Logic.{⊎_elim, ◌≢◌}
-use Prim.Native.Nat.{ℕ, ◌+◌, ◌-◌}
-use native.Mathlib.Omega.{arith}
-use lib.Dec.{ltb}
-use lib.ListN.{set}
-use borrow.Author.Tests.{lt-ltb, le-ltb}
-use Rattle.laws.specs.Choice.{pick}
-use Rattle.laws.proofs.Cases.{below?, pick_yes, pick_not}
+use Rattle.std.proofs.Common.{◌≡◌, ◌∙◌, arith}
 use Rattle.model.specs.Sizes.{ways}
-use Rattle.cache.specs.declared.Line.{Line}
-use Rattle.cache.specs.declared.Set.{Set}
+use Rattle.cache.proofs.OneWay.{none_below, this_below, other_below}
 use Rattle.cache.proofs.replaced.Goals as goal
-
--- way w replaced if it is below n
-abbrev below : ℕ → Set → ℕ → Line → Set
-below n s w l = record { ways = pick (ltb w n) (set s.ways w l) s.ways; history = s.history }
-
-abbrev put : Set → ℕ → Line → Set
-put t j l = record { ways = set t.ways j l; history = t.history }
-
-module _ (s : Set) (w : ℕ) (l : Line) where
-  none_below : s ≡ below 0 s w l
-  none_below = rw (le-ltb w 0 (omega arith))
-
-  this-below : (j : ℕ) (t u : Set) → t ≡ below j s w l → j ≡ w → u ≡ put t j l → u ≡ below (j + 1) s w l
-  this-below j t u e q f =
-      let a : t ≡ s = e ∙ (λ i. record { ways = pick_not (set s.ways w l) s.ways (le-ltb w j (omega arith)) i; history = s.history }) in
-      let b = pick_yes (set s.ways w l) s.ways (lt-ltb w (j + 1) (omega arith)) in
-      f ∙ (λ i. put (a i) (q i) l) ∙ (λ i. record { ways = sym b i; history = s.history })
-
-  same_test : (j : ℕ) → j ≢ w → ltb w j ≡ ltb w (j + 1)
-  same_test j d =
-      below? w j (λ h. lt-ltb w j h ∙ sym (lt-ltb w (j + 1) (omega arith))) (λ h. le-ltb w j h ∙ sym (le-ltb w (j + 1) (omega (arith, d))))
-
-  other-below : (j : ℕ) (t : Set) → t ≡ below j s w l → j ≢ w → t ≡ below (j + 1) s w l
-  other-below j t e d i = (e ∙ (λ k. record { ways = pick (same_test j d k) (set s.ways w l) s.ways; history = s.history })) i
+use Rattle.cache.proofs.replaced.Goals.{then-j-w, else-j-w}
 
 pub loop-j-init : goal.loop-j-init
 loop-j-init c = (omega arith, none_below c.args.s c.args.w c.args.l)
@@ -45,9 +13,10 @@ pub loop-j-preserved : goal.loop-j-preserved
 loop-j-preserved c =
     let a = c.args in (
       omega arith,
-      ⊎_elim (λ h. this-below a.s a.w a.l c.loop-j.j c.loop-j.t c.if-j-w.t c.loop-j.invariant.1 h.0.taken h.1)
-          (λ h. h.1 ∙ other-below a.s a.w a.l c.loop-j.j c.loop-j.t c.loop-j.invariant.1 h.0.left)
-          c.if-j-w.branch,
+      elim c.if-j-w.branch [
+        | then-j-w w ↦ this_below a.s a.w a.l c.loop-j.j c.loop-j.t c.if-j-w.t c.loop-j.invariant.1 w.if-j-w.true w.t-is
+        | else-j-w w ↦ w.t-is ∙ other_below a.s a.w a.l c.loop-j.j c.loop-j.t c.loop-j.invariant.1 w.if-j-w.false
+      ],
     )
 
 pub returns : goal.returns

@@ -2,6 +2,7 @@
 use mathlib.Core.Path.{◌≡◌}
 use Prim.Native.Nat.{◌≤◌, ◌-◌}
 use Rattle.model.specs.Sizes.{ways}
+use Rattle.cache.proofs.OneWay.{below}
 use Rattle.cache.proofs.replaced.Given as goal
 
 abbrev pub invariant-loop-j : goal.invariant-loop-j
