@@ -1,5 +1,6 @@
 // What checks ask of a state, answered on its bytes, and the refusal of an action.
 #![tactic(auto)]
+
 ghost use Rattle.std.specs.Prelude.{◌≡◌, true, not, ◌||◌, ◌<◌, eqb};
 ghost use Rattle.model.specs.Sizes.{addresses, reserved};
 ghost use Rattle.model.specs.State.{table, mapped, here};

@@ -1,0 +1,22 @@
+-- Each call has its arm; a number that is none has that of none.
+-- Assumes nothing.
+use Rattle.asks.proofs.Row.{none_needed}
+use Rattle.asks.proofs.checks.needed.Goals as goal
+
+pub returns-in-1 : goal.returns-in-1
+returns-in-1 c = rw c.in-1.is
+
+pub returns-in-2 : goal.returns-in-2
+returns-in-2 c = rw c.in-2.is
+
+pub returns-in-3 : goal.returns-in-3
+returns-in-3 c = rw c.in-3.is
+
+pub returns-in-4 : goal.returns-in-4
+returns-in-4 c = rw c.in-4.is
+
+pub returns-in-5 : goal.returns-in-5
+returns-in-5 c = rw c.in-5.is
+
+pub returns-in_default : goal.returns-in_default
+returns-in_default c = let x = c.args in none_needed x.n x.x c.in_default.in_default-own.rest

@@ -1,0 +1,15 @@
+-- The invariant: no table passed maps the page elsewhere.
+use mathlib.Core.Path.{◌≡◌}
+use mathlib.Core.Bool.{false}
+use Prim.Native.Nat.{◌≤◌, ◌-◌}
+use Rattle.laws.specs.Search.{some_below}
+use Rattle.model.specs.Sizes.{pages}
+use Rattle.host.specs.View.{view}
+use Rattle.asks.specs.Maps.{table_maps, but_at}
+use Rattle.asks.proofs.maps_away.Given as goal
+
+abbrev pub invariant-loop-t : goal.invariant-loop-t
+invariant-loop-t l = (l.t ≤ pages) × (some_below l.t (table_maps (view l.h).shape (but_at l.a.0) l.p.0) ≡ false)
+
+abbrev pub decreases-loop-t : goal.decreases-loop-t
+decreases-loop-t l = pages - l.t
