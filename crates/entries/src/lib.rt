@@ -1,5 +1,6 @@
 // What rule 4 tests at one entry and rule 6 at one page, and rule 6 in one pass over all tables.
 #![tactic(auto)]
+
 ghost use Rattle.std.specs.Prelude.{◌≡◌, ◌+◌, ◌*◌, ◌/◌, ◌%◌, ◌<◌};
 ghost use Rattle.host.specs.View.{view};
 ghost use Rattle.entries.specs.Entries.{own_by, own_at, shared_at, mapped_twice, page_unshared, counted, unshared};

@@ -1,5 +1,6 @@
 // What rules 7, 8 and 11 test at one line or slot, rule 9 at a way of set 7 and at its history, and rule 9 as a whole.
 #![tactic(auto)]
+
 ghost use Rattle.std.specs.Prelude.{◌≡◌, ◌+◌, ◌/◌, ◌%◌, ◌<◌};
 ghost use Rattle.model.specs.State.{table};
 ghost use Rattle.model.specs.RuleTests.{stealth_page, rule9_at_way, rule9_at_history, rule9?};

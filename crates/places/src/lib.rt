@@ -1,5 +1,6 @@
 // What rules 1, 2, 3, 5 and 6 test at one place.
 #![tactic(auto)]
+
 ghost use Rattle.std.specs.Prelude.{◌≡◌, ◌+◌, ◌/◌, ◌%◌, ◌<◌};
 ghost use Rattle.model.specs.RuleTests.{stored, fits};
 ghost use Rattle.host.specs.View.{view};

@@ -1,5 +1,6 @@
 // What rule 10 tests at one place: numbers in range, also by their field, and empty places zero.
 #![tactic(auto)]
+
 ghost use Rattle.std.specs.Prelude.{◌≡◌, ◌+◌, ◌/◌, ◌%◌, ◌<◌};
 ghost use Rattle.model.specs.RuleTests.{rule10_at_call, rule10_at_line, rule10_at_slot};
 ghost use Rattle.host.specs.View.{view};
