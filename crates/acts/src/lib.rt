@@ -1,5 +1,6 @@
 // The steps of the actions on the host's bytes, each equal to the model's, whatever the state: one file for each action.
 #![tactic(auto)]
+
 pub mod chmod;
 pub mod del;
 pub mod drop;

@@ -1,5 +1,6 @@
 // The test of validity: a function for each rule of docs/RULES.md.
 #![tactic(auto)]
+
 ghost use Rattle.std.specs.Prelude.{◌≡◌, ◌+◌, ◌*◌, ◌/◌, ◌%◌, ◌<◌};
 ghost use Rattle.laws.specs.Search.{all_below};
 ghost use Rattle.model.specs.Sizes.{pages, addresses};
