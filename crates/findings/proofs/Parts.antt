@@ -2,7 +2,7 @@
 -- Assumes nothing.
 use mathlib.Core.Path.{◌≡◌, refl, sym, ap, ◌∙◌}
 use mathlib.Core.Bool.{Bool, true, false, not, true≢false, false≢true}
-use mathlib.Core.Logic.{◌⊎◌, ⊎_elim}
+use mathlib.Core.Logic.{⊎_elim}
 use mathlib.Core.List.{List, [], ◌∷◌, ◌++◌}
 use Prim.Native.Nat.{ℕ, zero, suc, ◌+◌, ◌≤◌, ◌<◌}
 use native.Mathlib.Omega.{arith}
@@ -75,7 +75,7 @@ search (p ∷ ps) k =
     later : whole p ≡ true → {r : Finding} → Search ps (suc k) r → Search (p ∷ ps) k r
     later w (none e h) = none e (w, h)
     later w (some m a f b e) =
-        some (suc m) (omega arith) f (λ l. elim l [ zero ↦ λ c. w | suc x ↦ λ c. b x (omega arith) ])
+        some (suc m) (omega arith) f (λ l. elim l as (λ x. x < suc m → whole (part_at (p ∷ ps) x) ≡ true) [ zero ↦ λ c. w | suc x ↦ λ c. b x (omega arith) ])
         (e ∙ ap (λ (x : ℕ). broken x (first_failing (part_at ps m))) (omega arith))
 
 -- the first part apart: it fails, or it holds and the others follow

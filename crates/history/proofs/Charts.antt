@@ -15,7 +15,7 @@ use Rattle.laws.specs.Choice.{pick, at, ◌⇔◌}
 use Rattle.laws.proofs.Cases.{split, same?, pick_yes, pick_not}
 use Rattle.laws.proofs.Tests.{eq⇔, and⇔, as⇔, fails}
 use Rattle.laws.proofs.Lists.{at_same, at_other, set_at'}
-use Rattle.model.specs.Sizes.{guests, physicals, pages, addresses}
+use Rattle.model.specs.Sizes.{physicals, pages, addresses}
 use Rattle.model.specs.Names.{owner_guest}
 use Rattle.model.specs.State.{Shape, State, active, table}
 use Rattle.keeps.proofs.Core.{Core, in_force}

@@ -7,10 +7,9 @@ use Prim.Native.Nat.{ℕ, ◌+◌}
 use native.Mathlib.Omega.{arith}
 use lib.Dec.{eqb}
 use borrow.Author.Tests.{eq-eqb, ne_eqb}
-use Rattle.laws.specs.Choice.{pick, at}
+use Rattle.laws.specs.Choice.{pick}
 use Rattle.laws.proofs.Cases.{same?}
 use Rattle.laws.proofs.Counts.{count_set}
-use Rattle.model.specs.Sizes.{pages}
 use Rattle.model.specs.Names.{owner_none, owner_guest}
 use Rattle.model.specs.State.{State, active, here}
 use Rattle.model.specs.Records.{Action, silent, read, read_hyper, write, write_hyper, new, new_sm, del, switch, lswitch, hcall, ret_ctrl, chmod, pin, unpin, drop, InRange}

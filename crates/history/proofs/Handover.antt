@@ -14,9 +14,9 @@ use Rattle.laws.specs.Choice.{pick, at}
 use Rattle.laws.proofs.Cases.{same?, pick_yes, pick_not}
 use Rattle.laws.proofs.Tests.{not_so}
 use Rattle.laws.proofs.Lists.{at_same, at_other}
-use Rattle.model.specs.Sizes.{guests, physicals, pages, addresses}
+use Rattle.model.specs.Sizes.{guests, physicals, addresses}
 use Rattle.model.specs.Names.{kind_none}
-use Rattle.model.specs.State.{State, active, table}
+use Rattle.model.specs.State.{State, active}
 use Rattle.model.specs.Rules.{Maps}
 use Rattle.keeps.proofs.Core.{Core}
 use Rattle.keeps.proofs.Handover.{Idle}

@@ -88,7 +88,7 @@ unfolding run_by
 run_paired v w e [] b = record { shape = e; numbers = refl; answers = λ _. refl }
 run_paired {s} {t} v w e (r ∷ rs) b =
     let o : Paired (step s r) (step t r) = rw (step_judge s r v, step_judge t r w) (judge_paired s t e r) in
-    let u = run_paired (step_keeps v r b.0) (step_keeps w r b.0) o.shape rs b.1 in
+    let u = run_paired {s = (step s r).state} {t = (step t r).state} (step_keeps v r b.0) (step_keeps w r b.0) o.shape rs b.1 in
     record {
       shape = u.shape;
       numbers = ap₂ ◌∷◌ o.number u.numbers;

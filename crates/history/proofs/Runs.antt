@@ -70,10 +70,13 @@ module _ {n : ℕ → ℕ} {b : Book} where
       → Tells n b (past_after past rs (numbers s rs)) (run s rs).state
   unfolding run_by past_after
   run_tells t [] w = t
-  run_tells t (r ∷ rs) w = run_tells (step_tells t r w.0).state rs w.1
+  run_tells {past} {s} t (r ∷ rs) w =
+      run_tells {past = recall (accepted_of r (number_of (step s r).answer)) past} {s = (step s r).state} (step_tells t r w.0).state rs w.1
 
   pub run_values : {past : Past} {s : State} → Tells n b past s → (rs : List (List ℕ)) → Each Bytes rs
       → values s rs ≡ values_after b past rs (numbers s rs)
   unfolding run_by values_after
   run_values t [] w = refl
-  run_values t (r ∷ rs) w = let o = step_tells t r w.0 in ap₂ ◌∷◌ o.value (run_values o.state rs w.1)
+  run_values {past} {s} t (r ∷ rs) w =
+      let o = step_tells t r w.0 in
+      ap₂ ◌∷◌ o.value (run_values {past = recall (accepted_of r (number_of (step s r).answer)) past} {s = (step s r).state} o.state rs w.1)

@@ -9,7 +9,7 @@ use Rattle.laws.specs.Choice.{at}
 use Rattle.laws.specs.Bits.{bit, marks}
 use Rattle.laws.proofs.Cases.{below?}
 use Rattle.laws.proofs.Search.{Each, first_below_found, first_below_least}
-use Rattle.model.specs.Sizes.{guests, physicals, pages, addresses, policies, stealth}
+use Rattle.model.specs.Sizes.{physicals, pages, addresses, policies, stealth}
 use Rattle.model.specs.Names.{kind_data, kind_table}
 use Rattle.model.specs.State.{State, active, mapped, here}
 use Rattle.model.specs.Fresh.{fresh_with}
@@ -110,7 +110,7 @@ step_keeps {s} v l b = stepped (λ o. Valid o.state) s l (λ n. v) (λ w. judge_
 pub run_keeps : {s : State} → Valid s → (rs : List (List ℕ)) → Each Bytes rs → Valid (run s rs).state
 unfolding run_by
 run_keeps v [] b = v
-run_keeps {s} v (r ∷ rs) b = run_keeps (step_keeps v r b.0) rs b.1
+run_keeps {s} v (r ∷ rs) b = run_keeps {s = (step s r).state} (step_keeps v r b.0) rs b.1
 
 -- on a valid state a run needs no check 1
 pub run_judges : {s : State} → Valid s → (rs : List (List ℕ)) → Each Bytes rs → run s rs ≡ run_by judge s rs
@@ -118,7 +118,7 @@ unfolding run_by
 run_judges v [] b = refl
 run_judges {s} v (r ∷ rs) b =
     ap (λ (o : Outcome). after o (run_by step o.state rs)) (step_judge s r v)
-    ∙ ap (after (judge s r)) (run_judges (judge_keeps v r b.0) rs b.1)
+    ∙ ap (after (judge s r)) (run_judges {s = (judge s r).state} (judge_keeps v r b.0) rs b.1)
   where
     after : Outcome → Ran → Ran
     after o t = record { answers = o.answer ∷ t.answers; state = t.state }

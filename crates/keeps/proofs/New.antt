@@ -11,7 +11,7 @@ use Rattle.laws.specs.Choice.{pick, at, ◌⇔◌}
 use Rattle.laws.proofs.Cases.{split, same?}
 use Rattle.laws.proofs.Tests.{eq⇔, not⇔, fails}
 use Rattle.laws.proofs.Lists.{at_same}
-use Rattle.model.specs.Sizes.{guests, physicals, pages, addresses, stealth, reserved}
+use Rattle.model.specs.Sizes.{physicals, pages, addresses, stealth, reserved}
 use Rattle.model.specs.Names.{owner_guest, kind_data}
 use Rattle.model.specs.State.{Shape, State, nowhere, active, table, here, present, line_of_page}
 use Rattle.model.specs.Rules.{Maps}

@@ -36,7 +36,7 @@ module _ (g : ℕ) where
   unfolding seen_by open_by shown
   seen_shown v [] b = refl
   seen_shown {s} v (r ∷ rs) b =
-      let ih = seen_shown (step_keeps v r (b 0)) rs (λ i. b (suc i)) in
+      let ih = seen_shown {s = (step s r).state} (step_keeps v r (b 0)) rs (λ i. b (suc i)) in
       split (hidden g s r)
       (λ e. rw e (ih ∙ ap (λ (h : State). shown g h (open_records g (step s r).state rs)) (hidden_leaves g v r (b 0) e)))
       (λ e. rw e
@@ -47,7 +47,7 @@ module _ (g : ℕ) where
   unfolding run_by open_by left_by
   left_shown v [] b = refl
   left_shown {s} v (r ∷ rs) b =
-      let ih = left_shown (step_keeps v r (b 0)) rs (λ i. b (suc i)) in
+      let ih = left_shown {s = (step s r).state} (step_keeps v r (b 0)) rs (λ i. b (suc i)) in
       split (hidden g s r)
       (λ e. rw e (ih ∙ ap (λ (h : State). left_by g h (open_records g (step s r).state rs)) (hidden_leaves g v r (b 0) e)))
       (λ e. rw e (ih ∙ ap (λ (h : State). left_by g h (open_records g (step s r).state rs)) (step_shown g v r (b 0)).after))
@@ -92,7 +92,7 @@ module _ (f : State → List ℕ → Outcome) (same : (s : State) (r : List ℕ)
   unfolding open_by
   open_like g v [] b = refl
   open_like g {s} v (r ∷ rs) b =
-      ap (λ (o : Outcome). with_rest (open_by f g o.state rs)) (same s r v) ∙ ap with_rest (open_like g (step_keeps v r (b 0)) rs (λ i. b (suc i)))
+      ap (λ (o : Outcome). with_rest (open_by f g o.state rs)) (same s r v) ∙ ap with_rest (open_like g {s = (step s r).state} (step_keeps v r (b 0)) rs (λ i. b (suc i)))
     where
       with_rest : List (List ℕ) → List (List ℕ)
       with_rest l = pick (hidden g s r) l (told g s r ∷ l)
@@ -101,7 +101,7 @@ module _ (f : State → List ℕ → Outcome) (same : (s : State) (r : List ℕ)
   unfolding seen_by
   seen_like g v [] b = refl
   seen_like g {s} v (r ∷ rs) b =
-      ap (λ (o : Outcome). with_rest o (seen_by f g o.state rs)) (same s r v) ∙ ap (with_rest (step s r)) (seen_like g (step_keeps v r (b 0)) rs (λ i. b (suc i)))
+      ap (λ (o : Outcome). with_rest o (seen_by f g o.state rs)) (same s r v) ∙ ap (with_rest (step s r)) (seen_like g {s = (step s r).state} (step_keeps v r (b 0)) rs (λ i. b (suc i)))
     where
       with_rest : Outcome → List Sight → List Sight
       with_rest o l = pick (hidden g s r) l (sight g s o ∷ l)
@@ -110,7 +110,7 @@ module _ (f : State → List ℕ → Outcome) (same : (s : State) (r : List ℕ)
   unfolding run_by
   run_like v [] b = refl
   run_like {s} v (r ∷ rs) b =
-      ap (λ (o : Outcome). (run_by f o.state rs).state) (same s r v) ∙ run_like (step_keeps v r (b 0)) rs (λ i. b (suc i))
+      ap (λ (o : Outcome). (run_by f o.state rs).state) (same s r v) ∙ run_like {s = (step s r).state} (step_keeps v r (b 0)) rs (λ i. b (suc i))
 
   pub secret_like : Secret f
   secret_like g s v rs qs b c h =

@@ -114,7 +114,8 @@ calls_on {s} {j} {a} {z} p (x ∷ xs) {t} {l} (u, m, g, c) =
     subst₃ (λ (x y : List ℕ) (c : Bool). Streamed s x y c t l) (append_assoc j (take x.fed.bytes x.piece) (taken_by xs))
     (append_assoc a (take (answer_bytes * x.fed.records) x.after) (answers_by xs))
     (or_assoc z (eqb x.fed.number 13) (stopped_by xs))
-    (calls_on (streams_on p g) xs c)
+    (calls_on {s = s} {j = j ++ take x.fed.bytes x.piece} {a = a ++ take (answer_bytes * x.fed.records) x.after} {z = z || eqb x.fed.number 13}
+    {u = u} {k = m} (streams_on p g) xs c)
 
 -- The theorem to quote: any calls since begin.
 pub streamed : (s t : State) (l : List ℕ) (xs : List Call) → Calls s beginning xs t l → Streamed s (taken_by xs) (answers_by xs) (stopped_by xs) t l
