@@ -1,5 +1,6 @@
 // The whole state as an image of bytes: opened, loaded and saved. docs/HOST.md, "Images".
 #![tactic(auto)]
+
 ghost use Rattle.std.specs.Prelude.{◌≡◌, ◌&&◌, ◌+◌, ◌*◌, eqb, length};
 ghost use Rattle.laws.specs.Choice.{at};
 ghost use Rattle.model.specs.Sizes.{byte_bound};

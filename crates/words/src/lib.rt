@@ -1,5 +1,6 @@
 // The lines that are printed of the rules: that one holds, or the first place where it is broken, in the words of docs/RULES.md.
 #![tactic(auto)]
+
 ghost use Rattle.std.specs.Prelude.{◌≡◌, [], ◌∷◌, ◌++◌, ◌-◌, ◌/◌, ◌%◌, ◌≤◌, ◌<◌, length, get_or, take, drop};
 ghost use Rattle.print.specs.Text.{page, typed_all, decimal_of};
 ghost use Rattle.words.specs.Words.{field_names, no_form, a_number, the_stealth_history, form_of, words_of, holds_line, broken_line};

@@ -15,12 +15,12 @@ take-requires-then-valid c =
 pub returns-then-valid : goal.returns-then-valid
 returns-then-valid c =
     let a = c.args in
-    loads_valid (view a.h.now) a.image.now c.is_image.ensures c.if-is_image.true c.type_inv.apart.ensures c.valid.ensures c.if-valid.true c.take-then-valid.ensures
+    loads_valid (view a.h.now) a.image.now c.is_image.ensures c.if-is_image.true c.take.ensures c.valid.ensures c.if-valid.true c.take-then-valid.ensures
 
 pub returns-then-is_image : goal.returns-then-is_image
 returns-then-is_image c =
     let a = c.args in
-    loads_invalid (view a.h.now) a.image.now c.is_image.ensures c.if-is_image.true c.type_inv.apart.ensures c.valid.ensures c.if-valid.false
+    loads_invalid (view a.h.now) a.image.now c.is_image.ensures c.if-is_image.true c.take.ensures c.valid.ensures c.if-valid.false
 
 pub returns : goal.returns
 returns c =
