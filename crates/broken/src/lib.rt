@@ -1,5 +1,6 @@
 // The first place where a rule is broken: docs/HOST.md, "Checking". Each rule's parts are gone through in the order of docs/RULES.md, place by place.
 #![tactic(auto)]
+
 ghost use Rattle.std.specs.Prelude.{◌≡◌, [], ◌∷◌, ◌<◌};
 ghost use Rattle.model.specs.Broken.{passes_at, first_failing, parts_of, broken_from, is_holds, finding_number, finding_part, finding_place, first_broken};
 ghost use Rattle.host.specs.View.{view, Whole};

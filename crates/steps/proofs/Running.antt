@@ -146,7 +146,7 @@ unfolding run_by
 run_judged v [] b = refl
 run_judged {s} v (r ∷ rs) b =
     ap (λ (o : Outcome). after o (run_by judged o.state rs)) (judged_valid v r b.0)
-    ∙ ap (after (judge s r)) (run_judged (judge_keeps v r b.0) rs b.1)
+    ∙ ap (after (judge s r)) (run_judged {s = (judge s r).state} (judge_keeps v r b.0) rs b.1)
   where
     after : Outcome → Ran → Ran
     after o t = record { answers = o.answer ∷ t.answers; state = t.state }

@@ -1,5 +1,6 @@
 // An action on the host's bytes: judged, done or refused by its number, and answered.
 #![tactic(auto)]
+
 mod most; // most.rt: the run over at most so many records, the first of them put together elsewhere
 mod part; // part.rt: the run over records that lie one after another
 mod perform; // perform.rt: what an action does, and what it answers

@@ -9,7 +9,7 @@ pub play-requires : goal.play-requires
 play-requires c =
     let a = c.args in
     let e = none_together a.first.now c.if-first-eq0.true in
-    (omega arith, omega arith)
+    record { records = omega arith; room = omega arith }
 
 pub returns-then-first-eq0 : goal.returns-then-first-eq0
 returns-then-first-eq0 c =
@@ -25,7 +25,7 @@ pub play-accepted-requires : goal.play-accepted-requires
 play-accepted-requires c =
     let a = c.args in
     let e = one_together a.first.now c.if-first-eq0.false in
-    (omega arith, room_behind a.n c.judge_first-counted.ensures (omega arith))
+    record { records = omega arith; room = room_behind a.n c.judge_first-counted.ensures (omega arith) }
 
 pub overflow_add-result : goal.overflow_add-result
 overflow_add-result c =

@@ -17,7 +17,7 @@ pub turn-moved-requires : goal.turn-moved-requires
 turn-moved-requires c =
     let a = c.args in
     let e = played_length (view a.h.now) a.j.now a.start a.out.now (omega arith) c.loop-i.invariant.3 in
-    (omega arith, omega arith)
+    record { «record» = omega arith; room = omega arith }
 
 pub overflow_add-accepted : goal.overflow_add-accepted
 overflow_add-accepted c =

@@ -11,7 +11,7 @@ play-accepted-requires c =
     let a = c.args in
     let z = runnable_fits a.j.now a.start a.out.now in
     let e = c.records-n.ensures in
-    (omega arith, omega arith)
+    record { records = omega arith; room = omega arith }
 
 pub returns-then-valid : goal.returns-then-valid
 returns-then-valid c =

@@ -13,14 +13,14 @@ pub judge_at-counted-requires : goal.judge_at-counted-requires
 judge_at-counted-requires c =
     let a = c.args in
     let e = found_here (length a.j.now) a.at (omega arith) c.turn-turned.result c.turn-turned.ensures c.in-Record.is in
-    (omega arith, omega arith)
+    record { «record» = omega arith; room = omega arith }
 
 pub returns-in-Record : goal.returns-in-Record
 returns-in-Record c =
     let a = c.args in
     let n = length a.j.now in (
       moves_on n a.at (omega arith) c.turn-turned.result c.turn-turned.ensures,
-      subst (λ (p : ℕ). Turns (view a.h.now) a.j.now p a.out.now a.i c.judge_at-counted.result (view c.judge_at-counted.new.h) c.judge_at-counted.new.j.1.1.0)
+      subst (λ (p : ℕ). Turns (view a.h.now) a.j.now p a.out.now a.i c.judge_at-counted.result (view c.judge_at-counted.new.h) c.judge_at-counted.new.out)
           (found_here n a.at (omega arith) c.turn-turned.result c.turn-turned.ensures c.in-Record.is) c.judge_at-counted.ensures,
     )
 
