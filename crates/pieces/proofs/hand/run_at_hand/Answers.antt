@@ -1,0 +1,13 @@
+-- Nothing to run, or no begun record; or a begun record first.
+-- Assumes nothing.
+use mathlib.Core.Path.{sym, ◌∙◌}
+use mathlib.Core.Logic.{inl, inr}
+use Rattle.pieces.proofs.hand.run_at_hand.Goals as goal
+
+pub run_piece-requires : goal.run_piece-requires
+run_piece-requires c =
+    ((c.requires.0, inl c.if-n-eq0.true), (c.requires.1.0, c.requires.1.1))
+
+pub run_piece-requires-then-begun_size-eq0 : goal.run_piece-requires-then-begun_size-eq0
+run_piece-requires-then-begun_size-eq0 c =
+    ((c.requires.0, inr (sym c.begun_size.ensures.0 ∙ c.if-begun_size-eq0.true)), (c.requires.1.0, c.requires.1.1))
