@@ -1,5 +1,6 @@
 // A journal, run in place: header, limits, each record judged where it lies, answers and report.
 #![tactic(auto)]
+
 ghost use Rattle.std.specs.Prelude.{◌≡◌, ◌&&◌, ◌+◌, ◌*◌, ◌≤◌, ◌<◌, eqb, length};
 ghost use Rattle.laws.specs.Choice.{at};
 ghost use Rattle.model.specs.Sizes.{header_bytes, byte_bound};

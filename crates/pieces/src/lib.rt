@@ -1,5 +1,6 @@
 // A journal that arrives in pieces: each call runs what is at hand, as much as it is allowed. docs/HOST.md, "Journals in pieces".
 #![tactic(auto)]
+
 mod hand; // hand.rt: the bytes at hand, and their records
 mod header; // header.rt: the header, in pieces
 mod kept; // kept.rt: what is kept from one piece to the next

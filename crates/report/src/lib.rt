@@ -1,5 +1,6 @@
 // What a check prints: a line for each rule of a host, or of the host that an image holds, and the status that goes with it. docs/HOST.md, "Checking".
 #![tactic(auto)]
+
 ghost use Rattle.std.specs.Prelude.{◌≡◌};
 ghost use Rattle.print.specs.Text.{page, typed_all};
 ghost use Rattle.host.specs.View.{view};

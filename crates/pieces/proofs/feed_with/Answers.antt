@@ -17,7 +17,7 @@ pub run_at_hand-ran-requires : goal.run_at_hand-ran-requires
 run_at_hand-ran-requires c =
     let a = c.args in
     let z = run_fits (view a.h.now) a.k.now a.piece.now a.allowance a.last a.out.now (sym c.if-number-ne0.false ∙ c.piece_refusal-number.ensures) c.to_run-n.ensures in
-    (c.requires, (z.0, z.1))
+    record { known = c.requires; records = z.0; room = z.1 }
 
 pub keep-bytes-requires : goal.keep-bytes-requires
 keep-bytes-requires c =
@@ -25,7 +25,7 @@ keep-bytes-requires c =
     let e = sym c.if-number-ne0.false ∙ c.piece_refusal-number.ensures in
     let x = took_all (view a.h.now) a.k.now a.piece.now a.allowance a.last a.out.now e c.to_run-n.ensures c.run_at_hand-ran.ensures c.in-Took.is in
     let z = run_fits (view a.h.now) a.k.now a.piece.now a.allowance a.last a.out.now e c.to_run-n.ensures in
-    ((c.requires, keeps_header (view a.h.now) a.k.now a.piece.now a.allowance a.last a.out.now e c.to_run-n.ensures), subst (λ (m : ℕ). m ≤ whole_in (length (at_hand a.k.now a.piece.now))) (sym x) z.0)
+    record { known = (c.requires, keeps_header (view a.h.now) a.k.now a.piece.now a.allowance a.last a.out.now e c.to_run-n.ensures); records = subst (λ (m : ℕ). m ≤ whole_in (length (at_hand a.k.now a.piece.now))) (sym x) z.0 }
 
 pub returns-in-Took : goal.returns-in-Took
 returns-in-Took c =

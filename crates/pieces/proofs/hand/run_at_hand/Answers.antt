@@ -6,8 +6,8 @@ use Rattle.pieces.proofs.hand.run_at_hand.Goals as goal
 
 pub run_piece-requires : goal.run_piece-requires
 run_piece-requires c =
-    ((c.requires.0, inl c.if-n-eq0.true), (c.requires.1.0, c.requires.1.1))
+    record { known = (c.requires.known, inl c.if-n-eq0.true); records = c.requires.records; room = c.requires.room }
 
 pub run_piece-requires-then-begun_size-eq0 : goal.run_piece-requires-then-begun_size-eq0
 run_piece-requires-then-begun_size-eq0 c =
-    ((c.requires.0, inr (sym c.begun_size.ensures.0 ∙ c.if-begun_size-eq0.true)), (c.requires.1.0, c.requires.1.1))
+    record { known = (c.requires.known, inr (sym c.begun_size.ensures.0 ∙ c.if-begun_size-eq0.true)); records = c.requires.records; room = c.requires.room }

@@ -11,5 +11,5 @@ use Rattle.pieces.proofs.hand.run_piece.Goals as goal
 pub returns : goal.returns
 returns c =
     let a = c.args in
-    runs_none_begun a.k.now a.piece.now a.n a.out.now c.requires.1.0 c.requires.1.1 c.requires.0.1
-    (subst (λ (p : ℕ). RunsMost a.n (view a.h.now) [] a.piece.now p a.out.now c.run_most.result (view c.run_most.new.h) c.run_most.new.first.1.1.1.0) c.header_bytes-start.ensures.0 c.run_most.ensures)
+    runs_none_begun a.k.now a.piece.now a.n a.out.now c.requires.records c.requires.room c.requires.known.1
+    (subst (λ (p : ℕ). RunsMost a.n (view a.h.now) [] a.piece.now p a.out.now c.run_most.result (view c.run_most.new.h) c.run_most.new.out) c.header_bytes-start.ensures.0 c.run_most.ensures)

@@ -13,7 +13,7 @@ use Rattle.pieces.proofs.Bytes.{with_length, padded}
 use Rattle.pieces.proofs.kept.gather.Goals as goal
 
 pub loop-i-init : goal.loop-i-init
-loop-i-init c = (omega arith, c.requires.0.0, λ j h. absurd (omega arith))
+loop-i-init c = (omega arith, c.requires.known.0, λ j h. absurd (omega arith))
 
 pub gathered-requires : goal.gathered-requires
 gathered-requires c = (omega arith, omega arith)
@@ -44,6 +44,6 @@ returns c =
     let l = c.loop-i in
     let a = c.args in
     let r = begun_with a.k.now a.stays a.more.now in
-    let e = with_length a.k.now a.stays a.more.now c.requires.0.1 c.requires.0.2 in
+    let e = with_length a.k.now a.stays a.more.now c.requires.known.1 c.requires.known.2 in
     padded record_bytes l.into r l.invariant.1 (omega arith) (λ j h. l.invariant.2 j (omega arith))
     ∙ ap (λ (n : ℕ). r ++ replicate (record_bytes - n) 0) e

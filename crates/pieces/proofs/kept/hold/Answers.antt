@@ -14,7 +14,7 @@ pub returns : goal.returns
 returns c =
     let a = c.args in
     let r = begun_with a.k.now a.stays a.more.now in
-    let e = with_length a.k.now a.stays a.more.now c.requires.0.0 (omega arith) in
+    let e = with_length a.k.now a.stays a.more.now c.requires.known.0 (omega arith) in
     c.put.ensures
     ∙ ap (λ (n : ℕ). a.header ∷ n ∷ take begun_most c.gather.new.into) (sym e)
     ∙ kept_anew a.header r c.gather.new.into (omega arith) (c.gather.ensures ∙ ap (λ (n : ℕ). r ++ replicate (record_bytes - n) 0) (sym e))

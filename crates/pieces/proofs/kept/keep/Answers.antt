@@ -10,10 +10,10 @@ use Rattle.pieces.proofs.kept.keep.Goals as goal
 pub hold-requires : goal.hold-requires
 hold-requires c =
     let a = c.args in
-    ((c.requires.0.0, omega (arith, c.header_count.ensures.0, c.header_bytes.ensures.0)), parts_most a.k.now a.piece.now a.n c.requires.0.0 c.requires.1 c.staying-stays.ensures c.behind-from.ensures.0 c.taken_with-end.ensures.0)
+    record { known = (c.requires.known.0, omega (arith, c.header_count.ensures.0, c.header_bytes.ensures.0)); fits = parts_most a.k.now a.piece.now a.n c.requires.known.0 c.requires.records c.staying-stays.ensures c.behind-from.ensures.0 c.taken_with-end.ensures.0 }
 
 pub returns : goal.returns
 returns c =
     let a = c.args in
     let r : c.header_count.result + c.header_bytes.result ≡ header_count a.k.now + header_part a.k.now a.piece.now = λ i. c.header_count.ensures.0 i + c.header_bytes.ensures.0 i in
-    (c.taken_with-end.ensures.0, c.hold.ensures ∙ keeps a.k.now a.piece.now a.n c.requires.0.0 c.requires.1 c.staying-stays.ensures c.behind-from.ensures.0 c.taken_with-end.ensures.0 (c.header_count.result + c.header_bytes.result) r)
+    (c.taken_with-end.ensures.0, c.hold.ensures ∙ keeps a.k.now a.piece.now a.n c.requires.known.0 c.requires.records c.staying-stays.ensures c.behind-from.ensures.0 c.taken_with-end.ensures.0 (c.header_count.result + c.header_bytes.result) r)
