@@ -17,4 +17,5 @@ pub mod Rations
 pub mod Samples
 pub mod Journals
 pub mod Drawn
+pub mod Alike
 pub mod Policies

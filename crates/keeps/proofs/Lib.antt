@@ -29,8 +29,10 @@ pub mod Allowed
 pub mod Accepted
 pub mod Present
 pub mod Fresh
+pub mod Judging
 pub mod Keeps
 pub mod Samples
 pub mod Answers
+pub mod Resuming
 pub mod Resumes
 pub mod Images
