@@ -60,9 +60,9 @@ module _ {b : Book} {s : State} where
   pub journals_on : {past : Past} {u : State} → Kept b s past u → (xs : List Turn) → Each (λ x. Bytes x.journal) xs → {t : State} → Turns u xs t
       → AllGuarantee b s past xs t
   journals_on {past} k [] w {t} e = record { kept = subst (λ (x : State). Kept b s past x) (sym e) k; answers = tt }
-  journals_on k (x ∷ xs) w (v, p, q) =
+  journals_on {past = past} {u = u} k (x ∷ xs) w {t = t} (v, p, q) =
       let o = turn_kept k x.journal w.0 x.before x.verdict x.after p in
-      let g = journals_on o.0 xs w.1 q in
+      let g = journals_on {past = past_of past x.journal x.verdict x.after} {u = v} o.0 xs w.1 {t = t} q in
       record { kept = g.kept; answers = (o.1, g.answers) }
 
 -- a refused one among them leaves all as it was: the others go as they would without it

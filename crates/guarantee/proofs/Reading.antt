@@ -58,7 +58,7 @@ step_below {s} v r =
 pub run_below : {s : State} → Valid s → (rs : List (List ℕ)) → Each Bytes rs → Each Small (run s rs).answers
 unfolding run_by
 run_below v [] b = tt
-run_below v (r ∷ rs) b = (step_below v r, run_below (step_keeps v r b.0) rs b.1)
+run_below {s = s} v (r ∷ rs) b = (step_below v r, run_below {s = (step s r).state} (step_keeps v r b.0) rs b.1)
 
 -- ---- answers one after another
 

@@ -1,5 +1,6 @@
 // What the program prints: a journal run on a host, and its answers and its report as lines of text; an image loaded, and its refusal.
 #![tactic(auto)]
+
 mod stream; // stream.rt: a journal that arrives in pieces
 
 ghost use Rattle.std.specs.Prelude.{◌≡◌, ◌+◌, ◌*◌, ◌<◌, ◌≤◌, length};

@@ -1,6 +1,7 @@
 // The host for programs in C or Rust: functions on lent bytes alone, none of which asks anything of the bytes. include/ration.h says what it asks of
 // the pointers.
 #![tactic(auto)]
+
 mod report; // report.rt: the bytes of a report
 
 ghost use Rattle.std.specs.Prelude.{◌≡◌};
