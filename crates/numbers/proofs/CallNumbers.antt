@@ -5,7 +5,6 @@ use mathlib.Core.Bool.{Bool, true, false}
 use Prim.Native.Nat.{ℕ, zero, suc, ◌<◌}
 use native.Mathlib.Omega.{arith}
 use lib.ListN.{get_or-eq_default}
-use Rattle.laws.specs.Choice.{pick}
 use Rattle.laws.proofs.Cases.{split, below?, pick_yes, pick_not}
 use Rattle.laws.proofs.Tests.{and⇔, eq⇔}
 use Rattle.model.specs.Sizes.{calls, pin_kinds}

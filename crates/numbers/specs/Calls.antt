@@ -1,6 +1,6 @@
 -- A pending call as an answer of code, by its three numbers, and its numbers. `bytes_call` in proofs/CallNumbers.antt: no number is lost.
 -- Assumes nothing.
-use Rattle.std.specs.Prelude.{Bool, ◌&&◌, List, [], ◌∷◌, ℕ, zero, suc, eqb, get_or}
+use Rattle.std.specs.Prelude.{Bool, ◌&&◌, [], ◌∷◌, ℕ, zero, suc, eqb, get_or}
 use Rattle.laws.specs.Choice.{pick}
 use Rattle.model.specs.Records.{call_none, call_new, call_del, call_lswitch, call_pin, call_unpin}
 use Rattle.numbers.specs.declared.Va.{Va}

@@ -1,7 +1,7 @@
 -- What is left to type: the last i digits.
 use mathlib.Core.Path.{◌≡◌}
-use Prim.Native.Nat.{◌-◌, ◌<◌}
-use Rattle.print.specs.Text.{page, typed, typed_all, digits, decimal_of}
+use Prim.Native.Nat.{◌<◌}
+use Rattle.print.specs.Text.{page, typed_all, digits, decimal_of}
 use Rattle.print.proofs.number.Given as goal
 
 abbrev pub invariant-loop-i : goal.invariant-loop-i

@@ -1,7 +1,7 @@
 -- Every lower power is no more than the number.
 -- Assumes nothing.
 use native.Mathlib.Omega.{arith}
-use Prim.Native.Nat.{ℕ, suc, ◌-◌, ◌^◌, ◌≤◌, ◌<◌}
+use Prim.Native.Nat.{ℕ, suc, ◌^◌, ◌≤◌, ◌<◌}
 use mathlib.Core.Path.{◌≡◌, sym, subst}
 use Rattle.laws.proofs.Cases.{same?}
 use borrow.Author.Tests.{leb-true, leb-false}

@@ -1,10 +1,10 @@
 -- What is left to type, after i bytes.
 -- Assumes nothing.
 use native.Mathlib.Omega.{arith}
-use Prim.Native.Nat.{◌+◌, ◌-◌}
+use Prim.Native.Nat.{◌+◌}
 use mathlib.Core.Path.{◌≡◌, refl, sym, ap, ◌∙◌}
 use mathlib.Core.List.{[]}
-use lib.ListN.{length, drop, drop_of_length-le}
+use lib.ListN.{drop, drop_of_length-le}
 use Rattle.print.specs.Text.{Page, page, typed_all}
 use Rattle.print.proofs.Typing.{typed_kept, typed_rest, ends}
 use Rattle.print.proofs.text.Goals as goal

@@ -1,9 +1,8 @@
 -- The first i bytes are the fresh machine's; at the end all are.
 -- Assumes nothing.
 use mathlib.Core.Path.{◌∙◌}
-use Prim.Native.Nat.{◌-◌}
 use native.Mathlib.Omega.{arith}
-use lib.ListN.{length, length-set}
+use lib.ListN.{length-set}
 use Rattle.host.specs.FreshBytes.{fresh_byte}
 use Rattle.laws.proofs.Lists.{filled_more}
 use Rattle.host.proofs.FreshBytes.{filled_fresh}
