@@ -3,7 +3,7 @@
 use Rattle.std.specs.Prelude.{Bool, ◌&&◌, not, ℕ, suc, ◌+◌, ◌*◌, eqb}
 use Rattle.laws.specs.Choice.{at}
 use Rattle.laws.specs.Search.{some_below}
-use Rattle.model.specs.Sizes.{pages, addresses}
+use Rattle.model.specs.Sizes.{addresses}
 use Rattle.model.specs.Names.{kind_table}
 use Rattle.model.specs.State.{Shape, is_page, is_mapped}
 

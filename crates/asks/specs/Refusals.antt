@@ -1,6 +1,6 @@
 -- Checks in the parts that the code does one after the other: those of the row, and those of a page that is there.
 -- Assumes nothing.
-use Rattle.std.specs.Prelude.{Bool, true, false, ◌&&◌, ◌||◌, not, List, [], ◌∷◌, ℕ, eqb, get_or}
+use Rattle.std.specs.Prelude.{Bool, true, false, ◌||◌, not, List, [], ◌∷◌, ℕ, eqb, get_or}
 use Rattle.laws.specs.Choice.{pick, at}
 use Rattle.model.specs.Sizes.{stealth}
 use Rattle.model.specs.Names.{kind_data, kind_table}

@@ -28,7 +28,7 @@ use Rattle.journal.specs.declared.Report.{Report}
 use Rattle.journal.specs.declared.Verdict.TheVariants.{Done}
 use Rattle.journal.specs.Promises.{Runs}
 use Rattle.journal.proofs.Prefix.{run_valid}
-use Rattle.guarantee.specs.Secrecy.{Reply, replies_from, replies, KeepsSecret}
+use Rattle.guarantee.specs.Secrecy.{Reply, replies_from, KeepsSecret}
 use Rattle.guarantee.proofs.Reading.{run_below, numbers_back, values_back}
 use Rattle.guarantee.proofs.Images.{image_state, ended, run_state}
 

@@ -23,7 +23,6 @@ use Rattle.steps.specs.declared.Ran.TheVariants as code
 use Rattle.steps.specs.Parts.{runnable, records_from, took_of}
 use Rattle.steps.specs.Parts as part
 use Rattle.steps.proofs.Running.{whole_runnable}
-use Rattle.journal.specs.declared.Verdict.{Verdict}
 use Rattle.journal.specs.declared.Verdict.TheVariants.{Done, Refused}
 use Rattle.journal.specs.Promises.{verdict_to, verdict_from, Runs}
 use Rattle.journal.proofs.Header.{header⇔}

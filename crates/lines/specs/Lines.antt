@@ -3,7 +3,7 @@
 use Rattle.std.specs.Prelude.{Bool, ◌&&◌, not, ℕ, ◌+◌, ◌*◌, ◌/◌, ltb, eqb}
 use Rattle.laws.specs.Choice.{pick, at, ◌⇒◌}
 use Rattle.laws.specs.Search.{some_below}
-use Rattle.model.specs.Sizes.{pages, addresses, ways, lines, stealth, set_of, slot_of}
+use Rattle.model.specs.Sizes.{addresses, ways, lines, stealth, set_of, slot_of}
 use Rattle.model.specs.Names.{kind_data}
 use Rattle.model.specs.State.{State, lead, is_page, is_through, table, stealth_line}
 use Rattle.model.specs.RuleTests.{leads_to}

@@ -10,7 +10,7 @@ use Rattle.laws.specs.Choice.{pick}
 use Rattle.model.specs.State.{State}
 use Rattle.model.specs.Pieces.{stop, AfterCall, sent_back, feed}
 use Rattle.model.specs.Pieces as model
-use Rattle.model.proofs.Pieces.{number, either}
+use Rattle.model.proofs.Pieces.{either}
 use Rattle.host.specs.View.{view, Whole}
 use Rattle.host.proofs.Inverse.{view_inj}
 use Rattle.pieces.specs.declared.Fed.{Fed}

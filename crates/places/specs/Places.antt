@@ -5,7 +5,7 @@ use Rattle.std.specs.Bool.{beq}
 use Rattle.laws.specs.Choice.{at, ◌⇒◌}
 use Rattle.laws.specs.Bits.{marks}
 use Rattle.laws.specs.Search.{some_below, all_below}
-use Rattle.model.specs.Sizes.{guests, physicals, pages, addresses, stealth, first_host_page, first_free_page}
+use Rattle.model.specs.Sizes.{guests, physicals, addresses, stealth, first_host_page, first_free_page}
 use Rattle.model.specs.Names.{owner_none, owner_host, owner_guest, kind_none, kind_data, kind_table, running}
 use Rattle.model.specs.State.{State, lead, is_page}
 use Rattle.model.specs.RuleTests.{leads_to, stored, fits}

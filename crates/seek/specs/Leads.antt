@@ -2,7 +2,7 @@
 -- Assumes nothing.
 use Rattle.std.specs.Prelude.{Bool, true, ◌&&◌, not, ℕ, ◌+◌, ◌*◌, eqb}
 use Rattle.laws.specs.Choice.{at, ◌⇒◌}
-use Rattle.model.specs.Sizes.{physicals, pages}
+use Rattle.model.specs.Sizes.{physicals}
 use Rattle.model.specs.State.{State}
 use Rattle.numbers.specs.Lead.{lead_of, leads_at}
 use Rattle.numbers.specs.declared.Lead.{Lead}

@@ -1,7 +1,6 @@
 -- The invariant: what was found is whether one of the entries passed is there.
 -- Assumes nothing.
 use mathlib.Core.Path.{◌≡◌, sym, ◌∙◌}
-use Prim.Native.Nat.{◌-◌}
 use native.Mathlib.Omega.{arith}
 use Rattle.laws.proofs.Loops.{some_none, found_more}
 use Rattle.model.specs.Sizes.{addresses}

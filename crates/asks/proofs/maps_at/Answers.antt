@@ -1,8 +1,6 @@
 -- The invariant: no table passed maps the address to the page. A number past the last address is mapped by none.
 -- Assumes nothing.
 use mathlib.Core.Path.{◌≡◌, sym, ◌∙◌}
-use mathlib.Core.Bool.{false}
-use Prim.Native.Nat.{◌-◌}
 use native.Mathlib.Omega.{arith}
 use borrow.Author.Tests.{ne_eqb}
 use Rattle.laws.proofs.Loops.{some_none, some_found, none_more}

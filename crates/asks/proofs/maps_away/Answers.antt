@@ -1,8 +1,6 @@
 -- The invariant: no table passed maps the page elsewhere.
 -- Assumes nothing.
 use mathlib.Core.Path.{◌≡◌, sym, ◌∙◌}
-use mathlib.Core.Bool.{false}
-use Prim.Native.Nat.{◌-◌}
 use native.Mathlib.Omega.{arith}
 use Rattle.laws.proofs.Loops.{some_none, some_found, none_more}
 use Rattle.model.specs.Sizes.{pages}

@@ -5,7 +5,6 @@ use lib.ListN.{drop}
 use Rattle.model.specs.Broken.{parts_of, broken_from}
 use Rattle.host.specs.View.{view}
 use Rattle.broken.specs.Findings.{tenth_parts}
-use Rattle.broken.proofs.Sequence.{tenth_part}
 use Rattle.broken.proofs.in_tenth.Given as goal
 
 abbrev pub invariant-loop-k : goal.invariant-loop-k

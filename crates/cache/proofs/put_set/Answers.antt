@@ -1,7 +1,6 @@
 -- One way more each turn, then the history.
 -- Assumes nothing.
 use mathlib.Core.Path.{◌≡◌}
-use Prim.Native.Nat.{◌-◌}
 use native.Mathlib.Omega.{arith}
 use Rattle.model.specs.Sizes.{ways}
 use Rattle.host.specs.View.{view}

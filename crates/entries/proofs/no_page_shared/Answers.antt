@@ -1,7 +1,7 @@
 -- Each page that was counted so far is remembered with its address; one that comes at another address ends the loop.
 -- Assumes nothing.
 use mathlib.Core.Path.{◌≡◌, sym, subst}
-use Prim.Native.Nat.{ℕ, ◌/◌, ◌%◌, ◌-◌}
+use Prim.Native.Nat.{ℕ, ◌/◌, ◌%◌}
 use native.Mathlib.Omega.{arith}
 use Rattle.model.specs.Sizes.{addresses}
 use Rattle.host.specs.View.{view}

@@ -1,7 +1,7 @@
 -- The head stays, and so many bytes of the fields stand behind it.
 -- Assumes nothing.
 use mathlib.Core.Path.{refl, subst}
-use Prim.Native.Nat.{ℕ, ◌-◌}
+use Prim.Native.Nat.{ℕ}
 use native.Mathlib.Omega.{arith}
 use Rattle.laws.specs.Choice.{at}
 use Rattle.image.proofs.Copies.{Put, put_more, all_put}

@@ -2,13 +2,12 @@
 -- Assumes nothing.
 use mathlib.Core.Path.{refl, ◌∙◌}
 use mathlib.Core.Logic.{⊎_elim}
-use Prim.Native.Nat.{◌+◌, ◌-◌}
+use Prim.Native.Nat.{◌+◌}
 use native.Mathlib.Omega.{arith}
-use lib.ListN.{length, length-set}
+use lib.ListN.{length-set}
 use Rattle.laws.specs.Choice.{at}
 use Rattle.laws.proofs.Lists.{at_other, filled_more}
 use Rattle.model.specs.Sizes.{image_head_bytes}
-use Rattle.host.specs.View.{bytes}
 use Rattle.model.proofs.Image.{image_length}
 use Rattle.image.proofs.Copies.{taken, rest_taken}
 use Rattle.image.proofs.take_fields.Goals as goal

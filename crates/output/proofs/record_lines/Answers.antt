@@ -1,6 +1,6 @@
 -- After i turns the lines of the first i records are typed.
 -- Assumes nothing.
-use Rattle.std.proofs.Common.{◌≡◌, ℕ, ◌-◌, length, ap, ◌∙◌, arith}
+use Rattle.std.proofs.Common.{◌≡◌, ℕ, length, ap, ◌∙◌, arith}
 use Rattle.print.specs.Text.{Page, page, typed_all}
 use Rattle.output.specs.Output.{record_lines}
 use Rattle.output.proofs.Lines.{no_lines, one_more}

@@ -2,9 +2,8 @@
 -- Assumes nothing.
 use mathlib.Core.Path.{refl, ◌∙◌}
 use mathlib.Core.List.{[]}
-use Prim.Native.Nat.{◌-◌}
 use native.Mathlib.Omega.{arith}
-use lib.ListN.{length, length-set}
+use lib.ListN.{length-set}
 use Rattle.laws.proofs.Lists.{filled_more}
 use Rattle.model.specs.Sizes.{kept_bytes}
 use Rattle.pieces.proofs.Bytes.{padded}

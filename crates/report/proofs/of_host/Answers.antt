@@ -1,9 +1,7 @@
 -- After each turn the lines of the rules so far are typed, and it is known whether they all hold.
 -- Assumes nothing.
 use mathlib.Core.Path.{ap, ◌∙◌}
-use Prim.Native.Nat.{◌-◌}
 use native.Mathlib.Omega.{arith}
-use borrow.Author.Rules.{rules}
 use lib.ListN.{length}
 use Rattle.host.specs.View.{view}
 use Rattle.broken.proofs.Readings.{found_from}

@@ -1,16 +1,11 @@
 -- Every entry passed so far passes the test; one that fails ends the loop.
 -- Assumes nothing.
 use mathlib.Core.Path.{◌≡◌, sym, ◌∙◌}
-use mathlib.Core.Bool.{Bool, true}
-use mathlib.Core.List.{List}
-use Prim.Native.Nat.{ℕ, ◌*◌, ◌/◌, ◌%◌, ◌-◌}
+use Prim.Native.Nat.{◌*◌}
 use native.Mathlib.Omega.{arith}
 use borrow.Author.Tests.{not-true, not-false}
 use Rattle.laws.proofs.Loops.{all_none, all_more, all_fails}
 use Rattle.model.specs.Sizes.{pages, addresses}
-use Rattle.host.specs.View.{view}
-use Rattle.rules.specs.declared.EntryTest.{EntryTest}
-use Rattle.rules.specs.Tests.{entry_test}
 use Rattle.rules.proofs.all_entries.Invariants.{entry_of}
 use Rattle.rules.proofs.all_entries.Goals as goal
 

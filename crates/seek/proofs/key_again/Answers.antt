@@ -1,8 +1,6 @@
 -- No line passed so far passes the test; one that does ends the loop.
 -- Assumes nothing.
 use mathlib.Core.Path.{◌≡◌, sym, ◌∙◌}
-use mathlib.Core.Bool.{false}
-use Prim.Native.Nat.{◌-◌}
 use native.Mathlib.Omega.{arith}
 use Rattle.model.specs.Sizes.{lines}
 use Rattle.host.specs.View.{view}

@@ -1,6 +1,5 @@
 -- Each turn empties one more slot; with as many slots as the lists have places, all are empty.
 -- Assumes nothing.
-use Prim.Native.Nat.{◌-◌}
 use mathlib.Core.Path.{◌≡◌, ◌∙◌}
 use native.Mathlib.Omega.{arith}
 use Rattle.model.specs.Sizes.{slots}

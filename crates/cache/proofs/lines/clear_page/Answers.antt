@@ -1,7 +1,6 @@
 -- One line more each turn.
 -- Assumes nothing.
 use mathlib.Core.Path.{◌≡◌}
-use Prim.Native.Nat.{◌-◌}
 use native.Mathlib.Omega.{arith}
 use Rattle.model.specs.Sizes.{lines}
 use Rattle.host.specs.View.{view}

@@ -1,8 +1,6 @@
 -- The first line that is of the page: none before it was.
 -- Assumes nothing.
 use mathlib.Core.Path.{sym, ◌∙◌}
-use mathlib.Core.Bool.{false}
-use Prim.Native.Nat.{◌-◌}
 use native.Mathlib.Omega.{arith}
 use borrow.Author.Count.{below_more}
 use Rattle.laws.proofs.Search.{first_below_is, first_below_none}

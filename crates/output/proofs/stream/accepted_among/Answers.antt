@@ -1,6 +1,6 @@
 -- After i turns the first i answers are counted.
 -- Assumes nothing.
-use Rattle.std.proofs.Common.{◌≡◌, ℕ, ◌-◌, ap, ◌∙◌, arith}
+use Rattle.std.proofs.Common.{◌≡◌, ℕ, ap, ◌∙◌, arith}
 use Rattle.output.specs.Stream.{accepted_among}
 use Rattle.output.proofs.Calls.{none_yet, one_accepted, one_refused}
 use Rattle.output.proofs.stream.accepted_among.Goals as goal

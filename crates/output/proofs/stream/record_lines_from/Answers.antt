@@ -1,6 +1,6 @@
 -- After i turns the lines of the first i records are typed.
 -- Assumes nothing.
-use Rattle.std.proofs.Common.{◌≡◌, ℕ, ◌-◌, length, ap, ◌∙◌, arith}
+use Rattle.std.proofs.Common.{◌≡◌, ℕ, length, ap, ◌∙◌, arith}
 use Rattle.print.specs.Text.{Page, page, typed_all}
 use Rattle.print.proofs.Typing.{typed_length}
 use Rattle.output.specs.Stream.{record_lines_from}

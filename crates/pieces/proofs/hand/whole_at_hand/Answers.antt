@@ -3,7 +3,7 @@
 use mathlib.Core.Path.{sym, ap, ◌∙◌}
 use Prim.Native.Nat.{◌+◌, ◌-◌}
 use lib.ListN.{length}
-use Rattle.model.specs.Pieces.{begun, whole_in}
+use Rattle.model.specs.Pieces.{whole_in}
 use Rattle.pieces.proofs.AtHand.{hand_length}
 use Rattle.pieces.proofs.hand.whole_at_hand.Goals as goal
 

@@ -1,7 +1,7 @@
 -- After i turns the first i records are played.
 -- Assumes nothing.
 use mathlib.Core.Path.{◌≡◌, subst}
-use Prim.Native.Nat.{ℕ, ◌-◌}
+use Prim.Native.Nat.{ℕ}
 use native.Mathlib.Omega.{arith}
 use Rattle.host.specs.View.{view}
 use Rattle.steps.specs.Turns.{Plays}
