@@ -11,7 +11,7 @@ use native.Mathlib.Omega.{arith}
 use lib.Dec.{eqb}
 use lib.ListN.{length}
 use borrow.Author.Tests.{ne_eqb, eq-eqb}
-use Rattle.laws.specs.Choice.{pick, at, ◌⇔◌}
+use Rattle.laws.specs.Choice.{pick, ◌⇔◌}
 use Rattle.laws.proofs.Cases.{split}
 use Rattle.laws.proofs.Tests.{eq⇔, lt⇔, and⇔, or⇔, pick⇔, true⇔, as⇔}
 use Rattle.model.specs.Sizes.{stealth, calls, kinds, record_bytes, byte_bound, value_bound}

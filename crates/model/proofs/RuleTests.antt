@@ -22,7 +22,7 @@ use Rattle.model.specs.State.{State, lead, is_page, nowhere, stealth_line, line_
 use Rattle.model.specs.History.{start}
 use Rattle.model.specs.Records.{Row, within, row_of, kind_of_call}
 use Rattle.model.specs.Rules.{Stored, Within, Maps, Rule1, Rule2, Rule3, Rule4, Rule5, Rule6, Rule7, Rule8, Leads, Rule9, Below, Rule10, Rule11}
-use Rattle.model.specs.RuleTests.{leads_to, stored, fits, rule1?, rule2?, rule3?, rule4?, rule5?, maps_twice, rule6?, rule7?, rule8?, stealth_page, rule9?, column, columns, in_range, rule10?, rule11?}
+use Rattle.model.specs.RuleTests.{leads_to, stored, rule1?, rule2?, rule3?, rule4?, rule5?, maps_twice, rule6?, rule7?, rule8?, stealth_page, rule9?, column, columns, in_range, rule10?, rule11?}
 use Rattle.model.specs.Valid.{Sized}
 
 -- ---- a place that holds a page plus one

@@ -7,7 +7,7 @@ use Rattle.model.specs.Sizes.{record_bytes, answer_bytes, answer_value_at, heade
 use Rattle.model.specs.State.{State}
 use Rattle.model.specs.Records.{word_bytes, word_at}
 use Rattle.model.specs.Valid.{valid?}
-use Rattle.model.specs.Step.{Answer, refused, number_of, value_of}
+use Rattle.model.specs.Step.{Answer, number_of, value_of}
 use Rattle.model.specs.Run.{Ran, run}
 
 -- the bytes RPJ, version 1 as 16 bits low byte first, three zero bytes
