@@ -8,12 +8,9 @@ use native.Mathlib.Omega.{arith}
 use lib.Dec.{eqb}
 use lib.ListN.{length, drop, length-drop, length-append}
 use lib.Seq.{take_all, get_or-drop}
-use Rattle.laws.specs.Choice.{at, ◌⇔◌}
+use Rattle.laws.specs.Choice.{at}
 use Rattle.laws.specs.Cut.{cut, total, joined}
 use Rattle.laws.proofs.Cases.{split}
-use Rattle.laws.proofs.Lists.{at_past}
-use Rattle.laws.proofs.Tests.{eq⇔, and⇔, as⇔}
-use Rattle.laws.proofs.Search.{all⇔}
 use Rattle.laws.proofs.Cut.{cut_joined, joined_cut, length_joined}
 use Rattle.model.specs.Sizes.{byte_bound, mark_bytes, image_head_bytes}
 use Rattle.model.specs.Names.{write_back}
@@ -21,32 +18,12 @@ use Rattle.model.specs.State.{State}
 use Rattle.model.specs.Records.{Bytes}
 use Rattle.model.specs.Valid.{Sized, Valid}
 use Rattle.model.specs.Fields.{field_sizes, Small, state_of, state_fields}
-use Rattle.model.specs.Image.{mark, first_version, lengths, version_written, image_bytes, version_in, is_image, head, Image, image_of, fields_in, held}
+use Rattle.model.specs.Image.{mark, first_version, lengths, version_written, image_bytes, version_in, head, Image, image_of, fields_in, held}
 use Rattle.model.proofs.Bytes.{any_byte}
 use Rattle.model.proofs.Fields.{state_back, fields_sized, state_fields_back}
+pub use Rattle.model.proofs.Formed.{image⇔}
 
 -- ---- mark, version and length
-
-by_version : (v n : ℕ) → n ≡ at lengths v → (n ≡ 0) ⊎ ((v ≡ first_version) ⊎ (v ≡ version_written))
-by_version zero n e = inl e
-by_version (suc zero) n e = inr (inl refl)
-by_version (suc (suc zero)) n e = inr (inr refl)
-by_version (suc (suc (suc v))) n e = inl e
-
-module _ (i : List ℕ) where
-  abbrev Formed : Type 0
-  Formed = ((k : ℕ) → k < mark_bytes → at i k ≡ at mark k) × (length i ≡ at lengths (version_in i))
-
-  formed_image : Formed → Image i
-  formed_image (f, e) =
-      ⊎_elim (λ z. let m : at i 0 ≡ 82 = f 0 (omega arith) in let n = at_past i 0 (omega arith) in absurd (omega arith))
-      (λ v. record { marked = f; version = v; long = e }) (by_version (version_in i) (length i) e)
-
-  pub image⇔ : is_image i ⇔ Image i
-  unfolding is_image
-  image⇔ =
-      as⇔ (and⇔ (all⇔ mark_bytes (λ k h. eq⇔ (at i k) (at mark k))) (eq⇔ (length i) (at lengths (version_in i)))) formed_image
-      (λ m. (m.marked, m.long))
 
 -- its bytes, by the version
 pub image_length : (i : List ℕ) → Image i → (length i ≡ at lengths first_version) ⊎ (length i ≡ image_bytes)

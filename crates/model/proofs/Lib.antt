@@ -8,6 +8,7 @@ pub mod Journal
 pub mod Shape
 pub mod Bytes
 pub mod Fields
+pub mod Formed
 pub mod Image
 pub mod Saving
 pub mod Pieces
