@@ -1,6 +1,7 @@
 """What the checks read: sources without their comments, functions of Rattle with their contracts, declarations of antt, tables of the documents."""
 import re
 import sys
+from functools import lru_cache
 from pathlib import Path
 
 # The repository, or a tree that .ci/tests made.
@@ -26,8 +27,8 @@ def read(path):
 
 
 def dependencies():
-    """Each crate of crates.txt, with what stands on its line."""
-    return {name: rest.partition("#")[0].split() for name, rest in re.findall(r"^(\w+):(.*)", read("crates.txt"), re.M)}
+    """Each crate of crates.txt, with what stands on its line; what is said of it before the colon, as `staticlib`, is none of that."""
+    return {name: rest.partition("#")[0].split() for name, rest in re.findall(r"^(\w+)(?:[ \t][^:#\n]*)?:(.*)", read("crates.txt"), re.M)}
 
 
 def crates():
@@ -113,7 +114,7 @@ class Function:
         while True:
             between = BEFORE_BRACE.match(text, end).group()
             brace = end + len(between)
-            clause = re.search(r"\b(requires|ensures)(?:\s+\w+)?\s*$", between)
+            clause = re.search(r"\b(requires|ensures)(?:\s+[\w']+)?\s*$", between)
             kind = re.match(r"\s*->\s*(.*)", between[: clause.start()] if clause else between, re.S)
             self.result = kind[1].strip() if kind else self.result
             end = closed(text, brace) if text[brace : brace + 1] == "{" else brace + 1
@@ -171,14 +172,17 @@ NAME = r"[^\s(){}.;,@\"«»]+"
 
 
 def tree(text):
-    """A term as nested lists: names, projections such as '.exit', and what stands in brackets."""
-    stack = [[]]
-    for word in re.findall(rf"\.?{NAME}|[(){{}}]|[.;,@]", text.replace("«", "").replace("»", "")):
+    """A term as nested lists: names, what stands in brackets, and projections, each with what it is of, as ['h', '.new']."""
+    stack, text = [[]], text.replace("«", "").replace("»", "")
+    for found in re.finditer(rf"\.?{NAME}|[(){{}}]|[.;,@]", text):
+        word = found.group()
         if word in "({":
             stack.append([] if word == "(" else ["{}"])
         elif word in ")}" and len(stack) > 1:
             inner = stack.pop()
             stack[-1].append(inner[0] if len(inner) == 1 and inner != ["{}"] else inner)
+        elif word[0] == "." and len(word) > 1 and stack[-1] and re.fullmatch(r"[^\s({.;,@]", text[found.start() - 1]):
+            stack[-1][-1] = [stack[-1][-1], word]
         else:
             stack[-1].append(word)
     return stack[0]
@@ -202,13 +206,24 @@ def words(term):
 USE = re.compile(rf"\buse\s+(?:package\s*\.)?\s*((?:{NAME})(?:\.(?:{NAME}))*)(?:\.\{{([^}}]*)\}}|(\.\*)|\s+as\s+({NAME}))?")
 
 
-# the kit's libraries, which know nothing of this repository
-KIT = ("mathlib", "lib", "native", "denote", "Prim")
+# the kit's libraries, which know nothing of this repository: antt's own, and behind Rattle std and what crates.txt names beside our crates
+KIT = ("mathlib", "lib", "native", "denote", "borrow", "Prim")
+
+
+@lru_cache(None)
+def kit_crates():
+    ours = dependencies()
+    return {"std", *(name for used in ours.values() for name in used)} - ours.keys()
+
+
+def of_kit(path):
+    head, _, rest = path.partition(".")
+    return head in KIT or head == "Rattle" and rest.partition(".")[0] in kit_crates()
 
 
 def placed(path):
     """The file that a path of the repository leads to, and what it names in the file; a path that leads to none stays."""
-    inside = re.fullmatch(r"Rattle·(\w+?)(?:·(?:specs|proofs))?\.(specs|proofs)\.(.+)", path)
+    inside = re.fullmatch(r"Rattle\.(\w+)\.(specs|proofs)\.(.+)", path)
     parts = inside[3].split(".") if inside else []
     for last in range(len(parts), 0, -1):
         file = f"crates/{inside[1]}/{inside[2]}/{'/'.join(parts[:last])}.antt"
@@ -218,9 +233,9 @@ def placed(path):
 
 
 def home(path):
-    """`crate: Module` of a path of the repository such as Rattle·crate.specs.Module, else the path."""
-    inside = re.fullmatch(r"Rattle·(\w+)(?:·\w+)?\.(?:specs|proofs)\.(.+)", path)
-    return f"{inside[1]}: {inside[2]}" if inside else path
+    """`crate: Module` of a path of the repository such as Rattle.crate.specs.Module, else the path."""
+    inside = re.fullmatch(r"Rattle\.(\w+)\.(?:specs|proofs)\.(.+)", path)
+    return f"{inside[1]}: {inside[2]}" if inside and not of_kit(path) else path
 
 
 def imported(text):
@@ -246,8 +261,8 @@ def declarations(path):
             continue
         while blocks and blocks[-1][0] >= indent:
             blocks.pop()
-        block = re.match(r"\s*(?:(?:unfoldable|abbrev|pub)\s+)*(record|data|module|mutual|where)\b", line)
-        head = re.match(rf"\s*(?:(?:unfoldable|abbrev)\s+)*pub\s+(?:(?:unfoldable|abbrev|record|data)\s+)*({NAME})(?=\s|$)", line)
+        block = re.match(r"\s*(?:(?:pattern|unfoldable|abbrev|pub)\s+)*(record|data|module|mutual|where)\b", line)
+        head = re.match(rf"\s*(?:(?:pattern|unfoldable|abbrev)\s+)*pub\s+(?:(?:unfoldable|abbrev|record|data)\s+)*({NAME})(?=\s|$)", line)
         if head and head[1] not in ("use", "mod", "axiom", "ruleset") and all(kind in ("module", "mutual") for _, kind in blocks):
             rest = [line]
             for after in lines[n + 1 :]:

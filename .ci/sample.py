@@ -1,10 +1,10 @@
 """A small tree with nothing wrong in it, for .ci/tests: each file's text."""
 TREE = {
-    "crates.txt": "# all\nlaws:\nmodel: laws\nhistory: laws model\nhost: laws model\nsteps: model host\nration: host steps\nrpj: host steps\n",
+    "crates.txt": "# all\nlaws:\nmodel: laws\nhistory: laws model\nhost: laws model\nsteps: model host\nration staticlib: host steps\nrpj: host steps\n",
     "README.md": """
-One theorem, `one-step` of crates/steps/proofs/Answers.antt, whole:
+One theorem, `one_step` of crates/steps/proofs/Answers.antt, whole:
 
-    pub one-step : (s : State) (l : List ℕ) {a b : ℕ} {x y : List ℕ} → Whole x → Whole y → Steps s l a (view x) → Steps s l b (view y)
+    pub one_step : (s : State) (l : List ℕ) {a b : ℕ} {x y : List ℕ} → Whole x → Whole y → Steps s l a (view x) → Steps s l b (view y)
         → (a ≡ b) × (x ≡ y)
 
 It unfolds to 4 definitions, and `Steps` to 4 more. There are `Steps` (crates/steps/specs/Promises.antt) and `Past` (crates/history/specs/Past.antt).
@@ -26,9 +26,9 @@ tests/speed/run
     ".ci/run": "#!/bin/sh\n",
     "tests/speed/run": "#!/bin/sh\n",
     "docs/GUARANTEE.md": """
-The same, `one-step` of crates/steps/proofs/Answers.antt, whole:
+The same, `one_step` of crates/steps/proofs/Answers.antt, whole:
 
-    pub one-step : (s : State) (l : List ℕ) {a b : ℕ} {x y : List ℕ} → Whole x → Whole y → Steps s l a (view x) → Steps s l b (view y)
+    pub one_step : (s : State) (l : List ℕ) {a b : ℕ} {x y : List ℕ} → Whole x → Whole y → Steps s l a (view x) → Steps s l b (view y)
         → (a ≡ b) × (x ≡ y)
 
 | record | field | what it says |
@@ -45,7 +45,7 @@ The same, `one-step` of crates/steps/proofs/Answers.antt, whole:
 | file | reached through `Steps` alone |
 |---|---|
 | crates/host/src/lib.rt | `Cursor` |
-| crates/model/specs/State.antt | `Size`, `sizeOf`, `sized` |
+| crates/model/specs/State.antt | `Size`, `size_of`, `sized` |
 """,
     "docs/ARCHITECTURE.md": """
 ## Crates
@@ -63,19 +63,19 @@ The same, `one-step` of crates/steps/proofs/Answers.antt, whole:
 
 | what | theorem |
 |---|---|
-| one answer | `laws: Answers.one-answer`, `host: Sections.inside` |
+| one answer | `laws: Answers.one_answer`, `host: Sections.inside` |
 """,
     "docs/STATE.md": "| no. | field |\n|---|---|\n| 0 | owner |\n| 1 | callA |\n| | end |\n",
     "docs/RULES.md": "As docs/HOST.md, \"Valid states\".\n\n| rule | part | places |\n|---|---|---|\n| 1 | 0 | guests |\n| 2 | 0 to 1 | numbers |\n| 2 | 2 | free pages |\n\n## 1\n\n\"A guest is a guest.\"\n\n## 2\n\n\"A page is no guest.\"\n\n## Edits that break a rule\n\n1 `a_rule_left_out`.\n",
     "docs/ANSWERS.md": """
 | reading | theorem |
 |---|---|
-| `host: View.view` | `host: Answers.one-content` |
+| `host: View.view` | `host: Answers.one_content` |
 
 | named promise | theorem |
 |---|---|
-| `steps: Promises.Steps` | `steps: Answers.one-step` |
-| `host: View.Whole` | `host: Answers.one-content` |
+| `steps: Promises.Steps` | `steps: Answers.one_step` |
+| `host: View.Whole` | `host: Answers.one_content` |
 
 ## Wrong machines
 
@@ -94,24 +94,24 @@ The same, `one-step` of crates/steps/proofs/Answers.antt, whole:
 
 | function | theorem | ruled out | also ruled out | tried by |
 |---|---|---|---|---|
-| `host::whole` | `laws: Answers.one-answer` | none: it answers nothing | nor a change | |
-| `host::owner` | `laws: Answers.one-answer` | the kind | 0 always | steps: refuses_all |
-| `host::place` | `laws: Answers.one-answer` | 0 | one more | |
-| `host::set_owner` | `host: Answers.one-content` | the kind stored | nothing stored | another_stored; model: a_size_less |
-| `host::Cursor::at` | `laws: Answers.one-answer` | 0 | one more | |
+| `host::whole` | `laws: Answers.one_answer` | none: it answers nothing | nor a change | |
+| `host::owner` | `laws: Answers.one_answer` | the kind | 0 always | steps: refuses_all |
+| `host::place` | `laws: Answers.one_answer` | 0 | one more | |
+| `host::set_owner` | `host: Answers.one_content` | the kind stored | nothing stored | another_stored; model: a_size_less |
+| `host::Cursor::at` | `laws: Answers.one_answer` | 0 | one more | |
 
 ## steps
 
 | function | theorem | ruled out | also ruled out | tried by |
 |---|---|---|---|---|
-| `steps::step` | `steps: Answers.one-step` | refuses all | does nothing | refuses_all |
-| `steps::put` | `laws: Answers.one-answer` | one byte | no byte | |
+| `steps::step` | `steps: Answers.one_step` | refuses all | does nothing | refuses_all |
+| `steps::put` | `laws: Answers.one_answer` | one byte | no byte | |
 
 ## ration
 
 | function | theorem | ruled out | also ruled out | tried by |
 |---|---|---|---|---|
-| `ration::ration_step` | `host: Answers.one-content` | refuses all | does nothing | |
+| `ration::ration_step` | `host: Answers.one_content` | refuses all | does nothing | |
 """,
     "docs/HOST.md": """
 ## Valid states
@@ -206,17 +206,17 @@ enum { RATION_RULES = 2, RATION_FIELD_OWNER = 0, RATION_FIELD_CALL_A = 1, RATION
 void ration_step(uint8_t state[4]); /* a step */
 """,
     "crates/laws/src/lib.rt": "",
-    "crates/laws/proofs/Answers.antt": """use mathlib.Core.Path.{_≡_, sym, _∙_}
+    "crates/laws/proofs/Answers.antt": """use mathlib.Core.Path.{◌≡◌, sym, ◌∙◌}
 
-pub one-answer {ℓ} : {A : Type ℓ} (a x y : A) → x ≡ a → y ≡ a → x ≡ y
-one-answer a x y e f = e ∙ sym f
+pub one_answer {ℓ} : {A : Type ℓ} (a x y : A) → x ≡ a → y ≡ a → x ≡ y
+one_answer a x y e f = e ∙ sym f
 """,
-    "crates/laws/specs/Choice.antt": "use mathlib.Core.Bool.{Bool}\nuse mathlib.Core.List.{List}\nuse lib.ListN.{getD}\nabbrev pub pick : Bool\npick = true\n",
+    "crates/laws/specs/Choice.antt": "use Rattle.std.specs.Prelude.{Bool, true}\nabbrev pub pick : Bool\npick = true\n",
     "crates/model/src/lib.rt": "",
-    "crates/model/specs/Sizes.antt": "use Prim.Native.Nat.{ℕ}\nuse lib.Dec.{eqb}\nabbrev pub pages : ℕ\npages = 64\n",
+    "crates/model/specs/Sizes.antt": "use Rattle.std.specs.Prelude.{ℕ, eqb}\nabbrev pub pages : ℕ\npages = 64\n",
     "crates/model/specs/Rules.antt": "-- 1. A guest is\n-- a guest.\nabbrev pub Rule1 : ℕ\nRule1 = 1\n\n-- 2. A page is no guest. Here it is p.\nabbrev pub Rule2 : ℕ\nRule2 = 2\n",
-    "crates/model/specs/Names.antt": "use Prim.Native.Nat.{ℕ}\nabbrev pub kindNone : ℕ\nkindNone = 0\n",
-    "crates/model/specs/State.antt": """use Prim.Native.Nat.{ℕ}
+    "crates/model/specs/Names.antt": "use Rattle.std.specs.Prelude.{ℕ}\nabbrev pub kind_none : ℕ\nkind_none = 0\n",
+    "crates/model/specs/State.antt": """use Rattle.std.specs.Prelude.{ℕ}
 
 pub record State : Type 0 where
   pub owner : ℕ
@@ -224,38 +224,36 @@ pub record State : Type 0 where
 pub data Size : Type 0 where
   small : Size
 
-abbrev pub sizeOf : Size → ℕ
-sizeOf small = 4
+abbrev pub size_of : Size → ℕ
+size_of small = 4
 
 abbrev pub sized : State → ℕ
 sized s =
-    let owner = s .owner in
+    let owner = s.owner in
     elim owner [
-      | 0 ↦ sizeOf small
+      | 0 ↦ size_of small
       | n ↦ (λ n. n) n
     ]
 """,
-    "crates/model/specs/Records.antt": "use mathlib.Core.Option.{Option}\nuse mathlib.Core.Path.{_≡_}\nuse Rattle·model·specs.specs.Sizes.{pages}\npub data Action : Type 0 where\n  silent : Action\n",
-    "crates/model/specs/Shadow.antt": "use Rattle·model·specs.specs.State.{State as Other}\npub record Hidden : Type 0 where\n  pub all : Other\n",
+    "crates/model/specs/Records.antt": "use Rattle.std.proofs.Math.Option.{Option}\nuse Rattle.std.specs.Prelude.{◌≡◌}\nuse Rattle.model.specs.Sizes.{pages}\npub data Action : Type 0 where\n  silent : Action\n",
+    "crates/model/specs/Shadow.antt": "use Rattle.model.specs.State.{State as Other}\npub record Hidden : Type 0 where\n  pub all : Other\n",
     "crates/model/must-fail/a_size_less.edit": "",
     "crates/model/must-fail/a_rule_left_out.edit": "",
     "crates/history/src/lib.rt": "",
-    "crates/history/specs/Past.antt": """-- no state: use Rattle·model.specs.State.{State} is a comment
+    "crates/history/specs/Past.antt": """-- no state: use Rattle.model.specs.State.{State} is a comment
 {- and so is
-use Rattle·model.specs.State.{State}
+use Rattle.model.specs.State.{State}
 -}
-use Rattle·laws.specs.Choice.{pick}
-use Rattle·model.specs.Names.{kindNone}
-use Rattle·model.specs.Records.{Action}
-use Rattle·model.specs.Records as records
+use Rattle.laws.specs.Choice.{pick}
+use Rattle.model.specs.Names.{kind_none}
+use Rattle.model.specs.Records.{Action}
+use Rattle.model.specs.Records as records
 abbrev pub Past : Type 0
 Past = List Action
 """,
-    "crates/host/specs/View.antt": """use mathlib.Core.Path.{_≡_}
-use mathlib.Core.List.{List}
-use Prim.Native.Nat.{ℕ}
-use lib.ListN.{length}
-use Rattle·model.specs.State.{State}
+    "crates/host/specs/View.antt": """use Rattle.std.specs.Prelude.{◌≡◌, List, length}
+use Rattle.std.specs.Prelude.{ℕ}
+use Rattle.model.specs.State.{State}
 
 abbrev pub Whole : List ℕ → Type 0
 Whole l = length l ≡ 4
@@ -264,18 +262,18 @@ unfoldable pub view : List ℕ → State
 view l = record { owner = length l }
 """,
     "crates/host/proofs/Sections.antt": "module _ (s : State) where\n  pub inside : s ≡ s\n  inside = refl\n\npub record Fields : Type 0 where\n  pub field : ℕ\n",
-    "crates/host/proofs/Answers.antt": """use mathlib.Core.Path.{_≡_, sym, _∙_}
-use Rattle·host·specs.specs.View.{view, Whole}
+    "crates/host/proofs/Answers.antt": """use mathlib.Core.Path.{◌≡◌, sym, ◌∙◌}
+use Rattle.host.specs.View.{view, Whole}
 
-pub one-content : (s : State) (xs ys : List ℕ) → Whole xs → Whole ys → view xs ≡ s → view ys ≡ s → xs ≡ ys
-one-content s xs ys h k e f = view-inj xs ys h k (e ∙ sym f)
+pub one_content : (s : State) (xs ys : List ℕ) → Whole xs → Whole ys → view xs ≡ s → view ys ≡ s → xs ≡ ys
+one_content s xs ys h k e f = view_inj xs ys h k (e ∙ sym f)
 """,
     "crates/host/must-fail/another_stored.edit": "",
     "crates/host/src/lib.rt": """// bytes: pub fn not_here() -> u8
 mod start; // start.rt
 pub use start::set_owner;
-ghost use mathlib.Core.Path.{_≡_};
-ghost use Rattle·host·specs.specs.View.{view, Whole};
+ghost use Rattle.std.specs.Prelude.{◌≡◌};
+ghost use Rattle.host.specs.View.{view, Whole};
 
 pub type Host = [u8; 4];
 
@@ -288,7 +286,7 @@ pub struct Cursor {
 
 /* pub fn nor_here() -> u8 { 0 } */
 pub fn whole(h: &Host)
-    ensures { λ _. ⌜ Whole (now (h .entry)) ⌝ }
+    ensures { Whole h.now }
 {
 }
 
@@ -297,22 +295,22 @@ pub fn owner(
     p: Ma,
 ) -> u8
     ensures {
-        λ r. ⌜ r ≡
-            at (view (now (h .entry))) (p .0) ⌝
+        result ≡
+            at (view h.now) p.0
     }
 {
     h[p.0 as usize]
 }
 
 pub fn place(l: u8) -> Ma
-    ensures { λ r. ⌜ r .0 ≡ l ⌝ }
+    ensures { result.0 ≡ l }
 {
     Ma(l)
 }
 
 impl Cursor {
     pub fn at(self) -> u8
-        ensures { λ r. ⌜ r ≡ self .at ⌝ }
+        ensures { result ≡ self.at }
     {
         self.at
     }
@@ -320,42 +318,40 @@ impl Cursor {
 """,
     "crates/host/src/start.rt": """use super::Host;
 use super::Ma;
-ghost use mathlib.Core.Path.{_≡_};
-ghost use Rattle·host·specs.specs.View.{view};
+ghost use Rattle.std.specs.Prelude.{◌≡◌};
+ghost use Rattle.host.specs.View.{view};
 
 pub(crate) fn inner(h: &Host)
-    requires small { ⌜ 1 ≡ 1 ⌝ }
+    requires small { 1 ≡ 1 }
 {
     let text = "} pub fn quoted() {";
 }
 
 pub fn set_owner(h: &mut Host, p: Ma, v: u8)
-    ensures { λ _. ⌜ view (now (h .exit)) ≡ put (view (now (h .entry))) (p .0) v ⌝ }
+    ensures { view h.new ≡ put (view h.old) p.0 v }
 {
     super::whole(h);
 }
 """,
-    "crates/steps/specs/Promises.antt": """use mathlib.Core.Path.{_≡_}
-use mathlib.Core.List.{List}
-use Prim.Native.Nat.{ℕ}
-use Rattle·model.specs.State.{State}
-use Rattle·model.specs.State as model
-use Rattle·host.specs.declared.Cursor.{Cursor}
+    "crates/steps/specs/Promises.antt": """use Rattle.std.specs.Prelude.{◌≡◌, List, ℕ}
+use Rattle.model.specs.State.{State}
+use Rattle.model.specs.State as model
+use Rattle.host.specs.declared.Cursor.{Cursor}
 
 pub record Steps (s : State) (l : List ℕ) (a : ℕ) (t : State) : Type 0 where
   pub page : Cursor
-  pub answer : a ≡ model.sized s (page .left)
+  pub answer : a ≡ model.sized s page.left
 """,
-    "crates/steps/proofs/Answers.antt": """use mathlib.Core.Path.{_≡_}
+    "crates/steps/proofs/Answers.antt": """use mathlib.Core.Path.{◌≡◌}
 use mathlib.Core.List.{List}
 use Prim.Native.Nat.{ℕ}
-use Rattle·model.specs.State.{State}
-use Rattle·host.specs.View.{view, Whole}
-use Rattle·steps·specs.specs.Promises.{Steps}
+use Rattle.model.specs.State.{State}
+use Rattle.host.specs.View.{view, Whole}
+use Rattle.steps.specs.Promises.{Steps}
 
-pub one-step : (s : State) (l : List ℕ) {a b : ℕ} {x y : List ℕ} → Whole x → Whole y → Steps s l a (view x) → Steps s l b (view y)
+pub one_step : (s : State) (l : List ℕ) {a b : ℕ} {x y : List ℕ} → Whole x → Whole y → Steps s l a (view x) → Steps s l b (view y)
     → (a ≡ b) × (x ≡ y)
-one-step s l h k p q = cc
+one_step s l h k p q = cc
 
 -- pub gone : ℕ
 """,
@@ -363,12 +359,12 @@ one-step s l h k p q = cc
     "crates/steps/src/lib.rt": """use host::Cursor;
 use host::Host;
 use host::owner;
-ghost use mathlib.Core.Path.{_≡_};
-ghost use Rattle·host.specs.View.{view};
-ghost use Rattle·steps·specs.specs.Promises.{Steps};
+ghost use Rattle.std.specs.Prelude.{◌≡◌};
+ghost use Rattle.host.specs.View.{view};
+ghost use Rattle.steps.specs.Promises.{Steps};
 
 pub fn step(h: &mut Host, bytes: &[u8]) -> u8
-    ensures { λ r. ⌜ Steps (view (now (h .entry))) (now (bytes .entry)) r (view (now (h .exit))) ⌝ }
+    ensures { Steps (view h.old) bytes.now result (view h.new) }
 {
     let p = host::place(0);
     host::set_owner(h, p, 0);
@@ -377,25 +373,30 @@ pub fn step(h: &mut Host, bytes: &[u8]) -> u8
 }
 
 pub fn put(out: &mut [u8], more: &mut [u8], a: u8) -> u8
-    ensures { λ n. ⌜ (n ≡ 2) × (now (out .exit) ≡ a ∷ []) × (now (more .exit) ≡ []) ⌝ }
+    ensures { (result ≡ 2) × (out.new ≡ a ∷ []) × (more.new ≡ []) }
 {
     2
 }
 """,
     "crates/ration/src/lib.rt": """use host::Host;
-ghost use mathlib.Core.Path.{_≡_};
-ghost use Rattle·host.specs.View.{view};
+ghost use Rattle.std.specs.Prelude.{◌≡◌};
+ghost use Rattle.host.specs.View.{view};
 
-#[no_mangle]
+#[unsafe(no_mangle)]
 pub extern "C" fn ration_step(h: &mut Host)
-    ensures { λ _. ⌜ view (now (h .exit)) ≡ view (now (h .entry)) ⌝ }
+    ensures { view h.new ≡ view h.old }
 {
     steps::step(h, b"");
 }
 """,
     "crates/rpj/src/main.rt": "fn main() {\n    steps::put(b\"\", b\"\", 0);\n}\n",
-    "target/must-fail/model/a_size_less/.log": "a.antt:1:1: error: `samples-pass`: the two types differ\n",
-    "target/must-fail/model/a_rule_left_out/.log": "a.antt:1:1: error: `omega`: the goal does not follow from what it read\n",
-    "target/must-fail/host/another_stored/.log": "fn host::set_owner: no proof: `search` does not close `returns`\n",
-    "target/must-fail/steps/refuses_all/.log": "a.antt:9:9: error: `act-spec`: `close` was not admitted\n",
+    "target/rt-ci.log": """== model
+rt: model proved
+rt: must-fail model/a_rule_left_out.edit: refused, as it must be: ./proofs/Samples.antt:7:10: error: `group1`: `omega`: the goal does not follow from what it read
+rt: must-fail model/a_size_less.edit: refused, as it must be: ./proofs/Samples.antt:8:10: error: `samples_pass`: the two types differ
+rt: must-fail host/another_stored.edit: refused, as it must be: note: src/start.rt:12:1: it is not proved that what the function ensures holds when it returns (`returns`)
+rt: must-fail steps/refuses_all.edit: refused, as it must be: ./proofs/step/Answers.antt:9:9: error: `returns`: as printed, the two types first differ where one has `0`
+rt: ok; handles allowed: none; must-fail edits: 4 refused; every proof and must-fail edit was done in this run
+11 passed, 0 failed
+""",
 }

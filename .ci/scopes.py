@@ -1,14 +1,15 @@
 """What the text of each declaration uses: every name, found as antt finds it, by binders, by the file and by its `use` lines. A name or a form that
-is not known here is a complaint. Two forms, which no source has, are known to be read wrongly: a bound name with an underscore in guillemets, and a
-name bound by × that is used behind an arrow at the same depth."""
+is not known here is a complaint. One form, which no source has, is known to be read wrongly: a name bound by × that is used behind an arrow at the
+same depth."""
 import re
 from functools import lru_cache
 
-from reading import KIT, NAME, USE, antt, closed, complain, parted, placed, rattle
+from reading import KIT, NAME, USE, antt, closed, complain, of_kit, parted, placed, rattle
 
 SYNTAX = set("→ × : = ↦ | _ @ . λ Type elim let in as unfold".split())
 PRELUDE = {"⊥", "Unit"}  # what is used of that which Prim opens in every file
-MARKS = {"pub", "unfoldable", "abbrev", "axiom"}
+MARKS = {"pub", "unfoldable", "abbrev", "pattern", "axiom"}
+PLACE = "◌"  # where an operator's name has its arguments
 NUMERAL = re.compile(r"0[xob]\w+|\d[\d_]*")
 
 # ---- words and lines
@@ -85,7 +86,7 @@ def flat(words):
 
 def spelled(names):
     """Names as they are written: an operator also by its parts."""
-    return {part for name in names for part in (name, *(name.split("_") if "_" in name else ())) if part}
+    return {part for name in names for part in (name, *(name.split(PLACE) if PLACE in name else ())) if part}
 
 
 # ---- the text of a declaration
@@ -239,7 +240,7 @@ class File:
         last = None
         for block in blocks(antt(path)):
             words = nested(block, path)
-            marks = [word for word in words[:3] if isinstance(word, str) and word in MARKS]
+            marks = [word for word in words[:4] if isinstance(word, str) and word in MARKS]
             last = self.block(words[len(marks) :], block, "pub" in marks, last) if words else None
         for name in (*self.declared, *self.constructors, *self.items):
             for part in spelled([name]) - {name}:
@@ -295,7 +296,7 @@ class File:
             return self.given(name)
         if name in self.items:
             return self.follow(self.items[name])
-        parts = self.operators.get(name) or self.operators.get(name.strip("_"))
+        parts = self.operators.get(name) or self.operators.get(name.strip(PLACE))
         if parts:
             return [key for whole in parts for key in self.own(whole) or ()]
         return [] if name in PRELUDE else None
@@ -304,15 +305,15 @@ class File:
         head = word.partition(".")[0]
         if head == word:
             return self.own(word)
-        return self.follow(word) if head in (*self.modules, *KIT, "package") or head.startswith("Rattle·") else None
+        return self.follow(word) if head in (*self.modules, *KIT, "package", "Rattle") else None
 
     def follow(self, path):
         """The keys of a path: a whole one, or one behind a module that the file uses."""
         head, _, rest = path.partition(".")
         path = rest if head == "package" else f"{self.modules[head]}.{rest}" if head in self.modules else path
-        if path.partition(".")[0] in KIT:
+        if of_kit(path):
             return []
-        code = re.fullmatch(r"Rattle·(\w+?)(?:·specs)?\.specs\.declared\.(.+)", path)
+        code = re.fullmatch(r"Rattle\.(\w+)\.specs\.declared\.(.+)", path)
         if code:
             return of_code(code[1], code[2].split("."))
         file, name = placed(path)
@@ -384,8 +385,8 @@ def code_file(path):
 
 
 def of_code(crate, parts):
-    """The key of what antt calls declared.modules.Type.Type, or .the-variants.Variant."""
-    *modules, name, member = [part for part in ("", *parts) if part != "the-variants"]
+    """The key of what antt calls declared.modules.Type.Type, or .TheVariants.Variant."""
+    *modules, name, member = [part for part in ("", *parts) if part != "TheVariants"]
     file = f"crates/{crate}/src/{'/'.join(modules[1:]) or 'lib'}.rt"
     known = code_file(file).declared.get(name)
     if known is None or member not in (name, *known):
