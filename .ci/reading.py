@@ -27,7 +27,7 @@ def read(path):
 
 def dependencies():
     """Each crate of crates.txt, with what stands on its line."""
-    return {name: rest.partition("#")[0].split() for name, rest in re.findall(r"^(\w+):(.*)", read("crates.txt"), re.M)}
+    return {name: rest.partition("#")[0].split() for name, rest in re.findall(r"^(\w+)(?: +staticlib)?:(.*)", read("crates.txt"), re.M)}
 
 
 def crates():
