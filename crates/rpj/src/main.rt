@@ -1,8 +1,8 @@
 // The program: a journal from standard input, on the fresh machine of either policy or on the state of an image, its output to standard output, and the
 // state after it to another image; or the check of an image. No contract says what is read or written, so this file, files.rt and stream.rt are to be
 // read: they hand what they read to `output::load`, and to `output::run` or `output::feed`, or to `report::of_image`, and write the text and say the
-// status that these answer. A Rattle program has no exit status; it says that of docs/HOST.md, "Journal and program" and "Checking", on a descriptor of
-// its own, which ./rpj reads.
+// status that these answer. The status of docs/HOST.md, "Journal and program" and "Checking", is said on a descriptor of its own, which ./rpj reads: its
+// exit status would be one with that of a program that was stopped or not started.
 #![tactic(auto)]
 
 mod files; // files.rt: the words of ./rpj, the images that it names, and reading
