@@ -1,6 +1,7 @@
 // Runs of the rule book, and the edges of a journal: answers, and what is then in memory, marks and lines. The second
 // program prints the same from a state of its own.
 #![tactic(auto)]
+
 mod edges; // edges.rt: journals of the lengths where the answer changes
 mod show; // show.rt: what is printed
 

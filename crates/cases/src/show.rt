@@ -1,6 +1,7 @@
 // What is printed: words and numbers, an answer to a call, a page and a set of the cache.
 use host::{Host, Lead, Ma};
-use libc::STDOUT_FILENO;
+
+const STDOUT_FILENO: i32 = 1;
 
 pub(crate) fn say(s: &[u8]) {
     io::write_all(STDOUT_FILENO, s);

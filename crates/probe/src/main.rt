@@ -1,5 +1,6 @@
 // Test aid: does tasks from standard input by the proved code, and writes what came of each. docs/ARCHITECTURE.md, "The differential run", has the framing.
 #![tactic(auto)]
+
 mod checks; // checks.rt: the rules of a machine, and what is printed of an image
 
 use host::{Host, SIZE, WritePolicy};

@@ -1,5 +1,5 @@
-// The host for programs in C or Rust: functions on lent bytes alone, none of which asks anything of the bytes. include/ration.h says what it asks of
-// the pointers.
+// The host for programs in C or Rust: functions on lent bytes alone, none of which asks anything of the bytes. The crate ration_c exports them, and
+// include/ration.h says what it asks of the pointers.
 #![tactic(auto)]
 
 mod report; // report.rt: the bytes of a report
@@ -17,7 +17,8 @@ ghost use Rattle.ration.specs.Promises.{report_size, StartsBytes, StepsBytes, Ru
 
 use host::{Host, WritePolicy};
 use pieces::Kept;
-use report::{REPORT, put_report};
+pub use report::REPORT;
+use report::put_report;
 
 // What starting with a policy answers: done, or the number of a state that is not valid.
 const DONE: u8 = 0;
@@ -25,56 +26,49 @@ const DONE: u8 = 0;
 const NOT_VALID: u8 = 1;
 
 // The bytes of a state.
-#[unsafe(no_mangle)]
-pub extern "C" fn ration_size() -> usize
+pub fn ration_size() -> usize
     ensures { result ≡ stateBytes }
 {
     host::SIZE
 }
 
 // The bytes of an answer.
-#[unsafe(no_mangle)]
-pub extern "C" fn ration_answer_size() -> usize
+pub fn ration_answer_size() -> usize
     ensures { result ≡ answer_bytes }
 {
     steps::ANSWER
 }
 
 // The bytes of a report.
-#[unsafe(no_mangle)]
-pub extern "C" fn ration_report_size() -> usize
+pub fn ration_report_size() -> usize
     ensures { result ≡ report_size }
 {
     REPORT
 }
 
 // The bytes of an image.
-#[unsafe(no_mangle)]
-pub extern "C" fn ration_image_size() -> usize
+pub fn ration_image_size() -> usize
     ensures { result ≡ image_bytes }
 {
     image::SIZE
 }
 
 // The bytes that are kept from one piece of a journal to the next.
-#[unsafe(no_mangle)]
-pub extern "C" fn ration_kept_size() -> usize
+pub fn ration_kept_size() -> usize
     ensures { result ≡ kept_bytes }
 {
     pieces::KEPT
 }
 
 // The fresh machine, whatever the bytes were.
-#[unsafe(no_mangle)]
-pub extern "C" fn ration_fresh(h: &mut Host)
+pub fn ration_fresh(h: &mut Host)
     ensures { view h.new ≡ fresh }
 {
     host::fresh(h);
 }
 
 // The fresh machine with a policy, whatever the bytes were: 0, or 1 for a byte that is no policy.
-#[unsafe(no_mangle)]
-pub extern "C" fn ration_fresh_with(h: &mut Host, policy: u8) -> u8
+pub fn ration_fresh_with(h: &mut Host, policy: u8) -> u8
     ensures { StartsBytes (view h.old) policy result (view h.new) }
 {
     if policy == host::WRITE_BACK {
@@ -89,32 +83,28 @@ pub extern "C" fn ration_fresh_with(h: &mut Host, policy: u8) -> u8
 }
 
 // The policy of the state.
-#[unsafe(no_mangle)]
-pub extern "C" fn ration_policy(h: &Host) -> u8
+pub fn ration_policy(h: &Host) -> u8
     ensures { result ≡ (view h.now).shape.policy }
 {
     host::policy(h)
 }
 
 // Whether the state is valid, by the eleven rules.
-#[unsafe(no_mangle)]
-pub extern "C" fn ration_valid(h: &Host) -> bool
+pub fn ration_valid(h: &Host) -> bool
     ensures { result ≡ valid? (view h.now) }
 {
     rules::valid(h)
 }
 
 // How many pages the map marks as free.
-#[unsafe(no_mangle)]
-pub extern "C" fn ration_free_pages(h: &Host) -> u32
+pub fn ration_free_pages(h: &Host) -> u32
     ensures { result ≡ count_below pages (marks (view h.now).shape.pages.free) }
 {
     host::free_pages(h)
 }
 
 // A record, judged and done or refused; its answer's eight bytes.
-#[unsafe(no_mangle)]
-pub extern "C" fn ration_step(h: &mut Host, bytes: &[u8], answer: &mut [u8; steps::ANSWER])
+pub fn ration_step(h: &mut Host, bytes: &[u8], answer: &mut [u8; steps::ANSWER])
     ensures { StepsBytes (view h.old) bytes.now (view h.new) answer.new }
 {
     let a = steps::step(h, bytes);
@@ -122,13 +112,7 @@ pub extern "C" fn ration_step(h: &mut Host, bytes: &[u8], answer: &mut [u8; step
 }
 
 // A journal, run or refused; its answers, and its report's twenty bytes.
-#[unsafe(no_mangle)]
-pub extern "C" fn ration_run(
-    h: &mut Host,
-    journal: &[u8],
-    answers: &mut [u8],
-    report: &mut [u8; REPORT],
-)
+pub fn ration_run(h: &mut Host, journal: &[u8], answers: &mut [u8], report: &mut [u8; REPORT])
     ensures { RunsBytes (view h.old) journal.now answers.old (view h.new) answers.new report.new }
 {
     let v = journal::run(h, journal, answers);
@@ -136,8 +120,7 @@ pub extern "C" fn ration_run(
 }
 
 // The state, saved to the lent bytes as its image: 0, or the refusal's number.
-#[unsafe(no_mangle)]
-pub extern "C" fn ration_save(h: &Host, image: &mut [u8]) -> u8
+pub fn ration_save(h: &Host, image: &mut [u8]) -> u8
     ensures { SavesBytes (view h.now) image.old result image.new }
 {
     let saved = image::save(h, image);
@@ -145,8 +128,7 @@ pub extern "C" fn ration_save(h: &Host, image: &mut [u8]) -> u8
 }
 
 // The state that the image holds, loaded whatever the state was: 0, or the refusal's number.
-#[unsafe(no_mangle)]
-pub extern "C" fn ration_load(h: &mut Host, image: &[u8]) -> u8
+pub fn ration_load(h: &mut Host, image: &[u8]) -> u8
     ensures { LoadsBytes (view h.old) image.now result (view h.new) }
 {
     let loaded = image::load(h, image);
@@ -154,8 +136,7 @@ pub extern "C" fn ration_load(h: &mut Host, image: &[u8]) -> u8
 }
 
 // The state that the image holds, whatever that is, for a state that is to be checked: 0, or 16 and the state stays.
-#[unsafe(no_mangle)]
-pub extern "C" fn ration_open(h: &mut Host, image: &[u8]) -> u8
+pub fn ration_open(h: &mut Host, image: &[u8]) -> u8
     ensures { OpensBytes (view h.old) image.now result (view h.new) }
 {
     let opened = image::open(h, image);
@@ -163,8 +144,7 @@ pub extern "C" fn ration_open(h: &mut Host, image: &[u8]) -> u8
 }
 
 // What a check says of a rule: 0 it holds, 1 it is broken, 2 there is no such rule; and the first part and place where it is broken, 0 without one.
-#[unsafe(no_mangle)]
-pub extern "C" fn ration_broken(h: &Host, rule: u8, part: &mut u8, place: &mut u16) -> u8
+pub fn ration_broken(h: &Host, rule: u8, part: &mut u8, place: &mut u16) -> u8
     ensures { ChecksBytes (view h.now) rule result part.new place.new }
 {
     let f = broken::first_broken(h, rule);
@@ -174,16 +154,14 @@ pub extern "C" fn ration_broken(h: &Host, rule: u8, part: &mut u8, place: &mut u
 }
 
 // No byte of a journal was taken yet, whatever was kept.
-#[unsafe(no_mangle)]
-pub extern "C" fn ration_begin(kept: &mut Kept)
+pub fn ration_begin(kept: &mut Kept)
     ensures { kept.new ≡ beginning }
 {
     pieces::begin(kept);
 }
 
 // A piece of a journal, run as far as it is allowed, or refused: the number, and how many records it ran and bytes it took, 0 where it is refused.
-#[unsafe(no_mangle)]
-pub extern "C" fn ration_feed(
+pub fn ration_feed(
     h: &mut Host,
     kept: &mut Kept,
     piece: &[u8],

@@ -7,7 +7,7 @@ ghost use Rattle.ration.specs.Promises.{report_size, counts_bytes, report_bytes_
 
 use journal::{Report, Verdict};
 
-pub(crate) const REPORT: usize = 20;
+pub const REPORT: usize = 20;
 
 fn put_word(out: &mut [u8], at: usize, v: usize) -> usize
     ensures { page out.new result ≡ typed_all (page out.old at) (word_bytes v) }

@@ -5,6 +5,11 @@ ghost use Rattle.std.specs.Prelude.{◌≡◌, min, length};
 ghost use Rattle.io.specs.Counts.{IsPrefixLen};
 
 use host::Host;
+use std::env::{Env, FillError};
+use std::fs;
+use std::fs::{OpenFile, OpenOptions};
+use std::io::{Read, Write};
+use std::rt::Files;
 
 const FROM: usize = 1;
 
@@ -24,41 +29,73 @@ pub(crate) const FAILED: usize = usize::MAX;
 
 pub(crate) const ABSENT: usize = usize::MAX - 1;
 
-// A name, and .new behind it.
-const BESIDE: usize = libc::PATH_MAX + 4;
+// What holds any path, as `io::buffer` does; and .new behind it.
+const PATH: usize = 4096;
 
-fn is_said(word: usize) -> bool {
+const BESIDE: usize = PATH + 4;
+
+fn is_said(rt: &impl Env, word: usize) -> bool {
     let mut said = io::buffer();
-    os::arg(word, &mut said) > 0
+    match rt.arg(word, &mut said) {
+        Ok(n) => n > 0,
+        Err(_) => false,
+    }
 }
 
-pub(crate) fn is_streamed() -> bool {
-    is_said(STREAM)
+pub(crate) fn is_streamed(rt: &impl Env) -> bool {
+    is_said(rt, STREAM)
 }
 
-pub(crate) fn is_through() -> bool {
-    is_said(THROUGH)
+pub(crate) fn is_through(rt: &impl Env) -> bool {
+    is_said(rt, THROUGH)
 }
 
-pub(crate) fn is_checked() -> bool {
-    is_said(CHECK)
+pub(crate) fn is_checked(rt: &impl Env) -> bool {
+    is_said(rt, CHECK)
+}
+
+// ---- files by their names, which the library takes as text alone: it has no file of another name
+
+fn open_read<R: Files>(rt: &R, name: &[u8]) -> Option<R::File> {
+    let name = str::from_utf8(name).ok()?;
+    fs::open(rt, name).ok()
+}
+
+// A file that was not there before.
+fn create<R: Files>(rt: &R, name: &[u8]) -> Option<R::File> {
+    let name = str::from_utf8(name).ok()?;
+    OpenOptions::new()
+        .write(true)
+        .create_new(true)
+        .open(rt, name)
+        .ok()
+}
+
+fn remove(rt: &impl Files, name: &[u8]) -> bool {
+    match str::from_utf8(name) {
+        Ok(name) => fs::remove_file(rt, name).is_ok(),
+        Err(_) => false,
+    }
+}
+
+fn rename(rt: &impl Files, from: &[u8], to: &[u8]) -> bool {
+    match (str::from_utf8(from), str::from_utf8(to)) {
+        (Ok(from), Ok(to)) => fs::rename(rt, from, to).is_ok(),
+        _ => false,
+    }
 }
 
 // ---- reading
 
-// Reads until buf is full or the input ends, and answers how many bytes came, or FAILED where a read fails, which the kit's read_full does not tell.
-pub(crate) fn read_all(fd: i32, buf: &mut [u8]) -> usize {
+// Reads until buf is full or the input ends, and answers how many bytes came, or FAILED where a read fails.
+pub(crate) fn read_all(input: &mut impl Read, buf: &mut [u8]) -> usize {
     let mut done: usize = 0;
     while done < buf.len() {
-        let got = libc::read(fd, &mut buf[done..]);
-        if got < 0 {
-            return FAILED;
+        match input.read(&mut buf[done..]) {
+            Ok(0) => return done,
+            Ok(more) => done += more,
+            Err(_) => return FAILED,
         }
-        let more = io::count(got, &buf[done..]);
-        if more == 0 {
-            return done;
-        }
-        done += more;
     }
     done
 }
@@ -71,26 +108,20 @@ pub(crate) fn at_most(n: usize, buf: &[u8]) -> usize
     if n < buf.len() { n } else { buf.len() }
 }
 
-fn read_file(name: &[u8], buf: &mut [u8]) -> usize {
-    let fd = os::open_read(name);
-    if fd < 0 {
-        return FAILED;
+fn read_file(rt: &impl Files, name: &[u8], buf: &mut [u8]) -> usize {
+    match open_read(rt, name) {
+        Some(mut file) => read_all(&mut file, buf),
+        None => FAILED,
     }
-    let got = read_all(fd, buf);
-    libc::close(fd);
-    got
 }
 
-pub(crate) fn read_image(image: &mut [u8]) -> usize {
+pub(crate) fn read_image(rt: &(impl Env + Files), image: &mut [u8]) -> usize {
     let mut name = io::buffer();
-    let n = os::arg(FROM, &mut name);
-    if os::errno() == libc::ENAMETOOLONG {
-        return FAILED;
+    match rt.arg(FROM, &mut name) {
+        Ok(0) | Err(FillError::NotPresent) => ABSENT,
+        Ok(n) => read_file(rt, &name[..n], image),
+        Err(FillError::TooLong) => FAILED,
     }
-    if n == 0 {
-        return ABSENT;
-    }
-    read_file(&name[..n], image)
 }
 
 // ---- saving
@@ -109,45 +140,41 @@ fn last_slash(name: &[u8]) -> usize
     name.len()
 }
 
-fn open_folder(name: &[u8]) -> i32 {
+fn open_folder<R: Files>(rt: &R, name: &[u8]) -> Option<R::File> {
     let slash = last_slash(name);
     if slash == name.len() {
-        return os::open_read(b".");
+        return open_read(rt, b".");
     }
     if slash == 0 {
-        return os::open_read(b"/");
+        return open_read(rt, b"/");
     }
-    os::open_read(&name[..slash])
+    open_read(rt, &name[..slash])
 }
 
 // A new name of a file outlives a loss of power only once its folder is synced.
-fn sync_folder(name: &[u8]) -> bool {
-    let fd = open_folder(name);
-    if fd < 0 {
-        return false;
+fn sync_folder(rt: &impl Files, name: &[u8]) -> bool {
+    match open_folder(rt, name) {
+        Some(folder) => folder.sync_all().is_ok(),
+        None => false,
     }
-    let synced = libc::fsync(fd) == 0;
-    libc::close(fd);
-    synced
 }
 
-fn write_synced(fd: i32, bytes: &[u8]) -> bool {
-    let synced = io::write_all(fd, bytes) && libc::fsync(fd) == 0;
-    let closed = libc::close(fd) == 0;
-    synced && closed
+// The file is closed then.
+fn write_synced(file: impl Write + OpenFile + Drop, bytes: &[u8]) -> bool {
+    let mut file = file;
+    file.write_all(bytes).is_ok() && file.sync_all().is_ok()
 }
 
 // The new file is whole before it takes the old one's name. It is made anew: one that a crash left there might be another name of the old file.
-fn replace(name: &[u8], beside: &[u8], bytes: &[u8]) -> bool {
-    os::unlink(beside);
-    let fd = os::create(beside);
-    if fd < 0 {
+fn replace(rt: &impl Files, name: &[u8], beside: &[u8], bytes: &[u8]) -> bool {
+    remove(rt, beside);
+    let Some(file) = create(rt, beside) else {
         return false;
+    };
+    if write_synced(file, bytes) && rename(rt, beside, name) {
+        return sync_folder(rt, name);
     }
-    if write_synced(fd, bytes) && os::rename(beside, name) == 0 {
-        return sync_folder(name);
-    }
-    os::unlink(beside);
+    remove(rt, beside);
     false
 }
 
@@ -157,7 +184,7 @@ fn name_beside(name: &[u8], beside: &mut [u8]) -> usize {
     print::text(beside, end, b".new")
 }
 
-fn save_to(name: &[u8], h: &Host) -> bool {
+fn save_to(rt: &impl Files, name: &[u8], h: &Host) -> bool {
     let mut image = [0u8; image::SIZE];
     let a = image::save(h, &mut image);
     if image::number(a) != 0 {
@@ -166,18 +193,15 @@ fn save_to(name: &[u8], h: &Host) -> bool {
     let mut beside = [0u8; BESIDE];
     let n = name_beside(name, &mut beside);
     let k = at_most(n, &beside);
-    replace(name, &beside[..k], &image)
+    replace(rt, name, &beside[..k], &image)
 }
 
 // False where the image that ./rpj named cannot be written.
-pub(crate) fn save_image(h: &Host) -> bool {
+pub(crate) fn save_image(rt: &(impl Env + Files), h: &Host) -> bool {
     let mut name = io::buffer();
-    let n = os::arg(TO, &mut name);
-    if os::errno() == libc::ENAMETOOLONG {
-        return false;
+    match rt.arg(TO, &mut name) {
+        Ok(0) | Err(FillError::NotPresent) => true,
+        Ok(n) => save_to(rt, &name[..n], h),
+        Err(FillError::TooLong) => false,
     }
-    if n == 0 {
-        return true;
-    }
-    save_to(&name[..n], h)
 }

@@ -1,9 +1,10 @@
 // The program: a journal from standard input, on the fresh machine of either policy or on the state of an image, its output to standard output, and the
 // state after it to another image; or the check of an image. No contract says what is read or written, so this file, files.rt and stream.rt are to be
 // read: they hand what they read to `output::load`, and to `output::run` or `output::feed`, or to `report::of_image`, and write the text and say the
-// status that these answer. A Rattle program has no exit status; it says that of docs/HOST.md, "Journal and program" and "Checking", on a descriptor of
-// its own, which ./rpj reads.
+// status that these answer. The status of docs/HOST.md, "Journal and program" and "Checking", is said on a descriptor of its own, which ./rpj reads: its
+// exit status would be one with that of a program that was stopped or not started.
 #![tactic(auto)]
+
 mod files; // files.rt: the words of ./rpj, the images that it names, and reading
 mod stream; // stream.rt: a journal that is run as it arrives
 
@@ -15,7 +16,13 @@ use files::{
     save_image,
 };
 use host::{Host, WritePolicy};
-use libc::{STDERR_FILENO, STDIN_FILENO, STDOUT_FILENO};
+use std::env::Env;
+use std::io::Input;
+use std::rt::Files;
+
+const STDOUT_FILENO: i32 = 1;
+
+const STDERR_FILENO: i32 = 2;
 
 const STATUS_FILENO: i32 = 3;
 
@@ -74,8 +81,8 @@ fn run(h: &mut Host, input: &[u8], got: usize) -> u8 {
     put(&out[..p.bytes], p.status)
 }
 
-fn policy_asked() -> WritePolicy {
-    if is_through() {
+fn policy_asked(rt: &impl Env) -> WritePolicy {
+    if is_through(rt) {
         WritePolicy::Through
     } else {
         WritePolicy::Back
@@ -83,40 +90,40 @@ fn policy_asked() -> WritePolicy {
 }
 
 // The image has its own policy, and is judged before that.
-fn load_as_asked(h: &mut Host, image: &[u8], from: usize) -> u8 {
+fn load_as_asked(rt: &impl Env, h: &mut Host, image: &[u8], from: usize) -> u8 {
     let loaded = load(h, image, from);
     if loaded != RAN {
         return loaded;
     }
-    if is_through() && host::policy(h) != host::WRITE_THROUGH {
+    if is_through(rt) && host::policy(h) != host::WRITE_THROUGH {
         return fail(b"rpj: wrong use: --write-through, and the image is write-back\n");
     }
     RAN
 }
 
-fn start(h: &mut Host, image: &[u8], from: usize) -> u8 {
+fn start(rt: &impl Env, h: &mut Host, image: &[u8], from: usize) -> u8 {
     if from == ABSENT {
-        host::fresh_with(h, policy_asked());
+        host::fresh_with(h, policy_asked(rt));
         return RAN;
     }
-    load_as_asked(h, image, from)
+    load_as_asked(rt, h, image, from)
 }
 
-fn save(h: &Host) -> u8 {
-    if !save_image(h) {
+fn save(rt: &(impl Env + Files), h: &Host) -> u8 {
+    if !save_image(rt, h) {
         return fail(b"rpj: the image cannot be written\n");
     }
     RAN
 }
 
 // All is read before anything is printed.
-fn run_whole(h: &mut Host, image: &[u8], from: usize) -> u8 {
+fn run_whole(rt: &(impl Env + Input), h: &mut Host, image: &[u8], from: usize) -> u8 {
     let mut input = [0u8; INPUT];
-    let got = read_all(STDIN_FILENO, &mut input);
+    let got = read_all(&mut rt.reader(), &mut input);
     if got == FAILED {
         return fail(b"rpj: the input cannot be read\n");
     }
-    let started = start(h, image, from);
+    let started = start(rt, h, image, from);
     if started != RAN {
         return started;
     }
@@ -124,39 +131,39 @@ fn run_whole(h: &mut Host, image: &[u8], from: usize) -> u8 {
 }
 
 // The image is judged before anything is read.
-fn run_streamed(h: &mut Host, image: &[u8], from: usize) -> u8 {
-    let started = start(h, image, from);
+fn run_streamed(rt: &(impl Env + Input), h: &mut Host, image: &[u8], from: usize) -> u8 {
+    let started = start(rt, h, image, from);
     if started != RAN {
         return started;
     }
-    stream::run(h)
+    stream::run(&mut rt.reader(), h)
 }
 
-fn run_either(h: &mut Host, image: &[u8], from: usize) -> u8 {
-    if is_streamed() {
-        return run_streamed(h, image, from);
+fn run_either(rt: &(impl Env + Input), h: &mut Host, image: &[u8], from: usize) -> u8 {
+    if is_streamed(rt) {
+        return run_streamed(rt, h, image, from);
     }
-    run_whole(h, image, from)
+    run_whole(rt, h, image, from)
 }
 
 // An image is saved once all is printed.
-fn whole() -> u8 {
+fn whole(rt: &(impl Env + Files + Input)) -> u8 {
     let mut image = [0u8; IMAGE];
-    let from = read_image(&mut image);
+    let from = read_image(rt, &mut image);
     if from == FAILED {
         return fail(b"rpj: the image cannot be read\n");
     }
-    if is_checked() {
+    if is_checked(rt) {
         return check(&image, from);
     }
     let mut h: Host = [0; host::SIZE];
-    let ran = run_either(&mut h, &image, from);
+    let ran = run_either(rt, &mut h, &image, from);
     if ran != RAN {
         return ran;
     }
-    save(&h)
+    save(rt, &h)
 }
 
-fn main() {
-    io::write_all(STATUS_FILENO, &[whole()]);
+fn main(rt: HostRuntime) {
+    io::write_all(STATUS_FILENO, &[whole(&rt)]);
 }

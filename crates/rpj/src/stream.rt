@@ -4,9 +4,9 @@ ghost use Rattle.output.specs.Output.{ran_status};
 
 use super::{RAN, fail, put};
 use host::Host;
-use libc::STDIN_FILENO;
 use output::{Streamed, Told};
 use pieces::{KEPT, Kept};
+use std::io::Read;
 
 const PIECE: usize = 4096;
 
@@ -77,25 +77,21 @@ fn last_call(h: &mut Host, k: &mut Kept, told: Told) -> Turn {
 }
 
 // As much as one read gives.
-fn read_once(h: &mut Host, k: &mut Kept, told: Told) -> Turn {
+fn read_once(input: &mut impl Read, h: &mut Host, k: &mut Kept, told: Told) -> Turn {
     let mut piece = [0u8; PIECE];
-    let got = libc::read(STDIN_FILENO, &mut piece);
-    if got < 0 {
-        return Turn {
+    match input.read(&mut piece) {
+        Ok(0) => last_call(h, k, told),
+        Ok(n) => offer(h, k, told, &piece[..n]),
+        Err(_) => Turn {
             goes_on: false,
             status: fail(b"rpj: the input cannot be read\n"),
             told,
-        };
+        },
     }
-    let n = io::count(got, &piece);
-    if n == 0 {
-        return last_call(h, k, told);
-    }
-    offer(h, k, told, &piece[..n])
 }
 
 // A proved loop has to end, and nothing says that the input does.
-pub(crate) fn run(h: &mut Host) -> u8 {
+pub(crate) fn run(input: &mut impl Read, h: &mut Host) -> u8 {
     let mut k: Kept = [0; KEPT];
     pieces::begin(&mut k);
     let mut t = Turn {
@@ -109,7 +105,7 @@ pub(crate) fn run(h: &mut Host) -> u8 {
     let mut turns = u64::MAX;
     while turns > 0 && t.goes_on {
         let told = t.told;
-        t = read_once(h, &mut k, told);
+        t = read_once(input, h, &mut k, told);
         turns -= 1;
     }
     t.status
