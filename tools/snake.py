@@ -16,11 +16,13 @@ import sys
 ROOT = os.getcwd()
 TOKEN = re.compile(r"[^\s(){}.,;«»\[\]|\"`]+")
 DECLARED = re.compile(r"^[ \t]*(?:\| )?(?:(?:unfoldable|abbrev|opaque|pub|record|data) )*([^\s(){}.,;:«»]+)(?: \{ℓ\}| \([^)]*\)| \{[^}]*\})*[ \t]*(?::(?=\s)|where\b)", re.M)
-HUMP = re.compile(r"(?<=[a-z0-9])(?=[A-Z])")
+HUMP = re.compile(r"(?<=[a-z0-9])(?=[A-Z])|(?<=[A-Z])(?=[A-Z][a-z])")
 CRATES = set(os.listdir(os.path.join(ROOT, "crates")))
 
 
 def snake(name):
+    # the library's getD is get_or today
+    name = name.replace("getD", "get_or") if "getD-" in name else name
     out = re.sub(r"(?<=[\w'⇔↔?₀-₉])-(?=[\w'⇔↔?₀-₉])", "_", name)
     if not out[0].isupper():
         out = HUMP.sub("_", out).lower() if out.isascii() else "".join("_" + c.lower() if HUMP.match(out, i) else c.lower() if c.isascii() else c for i, c in enumerate(out))

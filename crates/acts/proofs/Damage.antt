@@ -11,7 +11,7 @@ use lib.Seq.{ext_get_or, set_out}
 use Rattle.laws.specs.Choice.{pick, at}
 use Rattle.laws.proofs.Cases.{split, below?, pick_not}
 use Rattle.laws.proofs.Tests.{eq⇔, lt⇔, not_so, fails}
-use Rattle.laws.proofs.Lists.{at_past, at_any, length_list_of, get_d_list_of}
+use Rattle.laws.proofs.Lists.{at_past, at_any, length_list_of, get_or_list_of}
 use Rattle.laws.proofs.Search.{first_below_none}
 use Rattle.model.specs.Sizes.{pages, ways, lines, set_of}
 use Rattle.model.specs.State.{Shape, State, is_page, nowhere, mapped, has_key, hit_way, no_line, line_at, line_of, present}
@@ -53,7 +53,7 @@ cleared_same P l b e =
     let f : ℕ → ℕ = λ i. pick (eqb (at P i) (suc nowhere)) 0 (at l i) in
     ext_get_or 0 (cleared P nowhere l) l (length_list_of lines f ∙ sym e)
     (λ j k.
-    get_d_list_of lines f 0 j (omega (arith, length_list_of lines f))
+    get_or_list_of lines f 0 j (omega (arith, length_list_of lines f))
     ∙ pick_not 0 (at l j) (not_so (eq⇔ (at P j) (suc nowhere)) (λ q. omega (arith, b j))))
 
 -- the sizes of the lists that are written

@@ -12,7 +12,7 @@ use borrow.Author.Tests.{lt-ltb, le-ltb}
 use Rattle.laws.specs.Choice.{pick, at}
 use Rattle.laws.specs.Search.{list_of}
 use Rattle.laws.proofs.Cases.{split, same?, below?, pick_yes, pick_not}
-use Rattle.laws.proofs.Lists.{at_same, at_other, length_list_of, get_d_list_of}
+use Rattle.laws.proofs.Lists.{at_same, at_other, length_list_of, get_or_list_of}
 use Rattle.model.specs.Sizes.{pages, lines}
 use Rattle.model.specs.State.{State, is_page, line_of_page, present}
 use Rattle.model.specs.Parts.{with_cache, cleared, take_out_page}
@@ -24,7 +24,7 @@ use Rattle.cache.specs.Lines.{put_whole, is_of, zeroed, cleared_below}
 -- ---- one list
 
 list_is : (l : List ℕ) (n : ℕ) (f : ℕ → ℕ) → length l ≡ n → ((j : ℕ) → j < n → at l j ≡ f j) → l ≡ list_of n f
-list_is l n f e h = ext_get_or 0 l (list_of n f) (e ∙ sym (length_list_of n f)) (λ j b. h j (omega arith) ∙ sym (get_d_list_of n f 0 j (omega arith)))
+list_is l n f e h = ext_get_or 0 l (list_of n f) (e ∙ sym (length_list_of n f)) (λ j b. h j (omega arith) ∙ sym (get_or_list_of n f 0 j (omega arith)))
 
 module _ (P : List ℕ) (p : ℕ) (l : List ℕ) where
   zeroed_length : (n : ℕ) → length (zeroed n P p l) ≡ lines
@@ -33,7 +33,7 @@ module _ (P : List ℕ) (p : ℕ) (l : List ℕ) where
 
   zeroed_at : (n j : ℕ) → j < lines → at (zeroed n P p l) j ≡ pick (ltb j n && eqb (at P j) (suc p)) 0 (at l j)
   unfolding zeroed
-  zeroed_at n j h = get_d_list_of lines (λ i. pick (ltb i n && eqb (at P i) (suc p)) 0 (at l i)) 0 j h
+  zeroed_at n j h = get_or_list_of lines (λ i. pick (ltb i n && eqb (at P i) (suc p)) 0 (at l i)) 0 j h
 
   zeroed_past : (n j : ℕ) → n ≤ j → j < lines → at (zeroed n P p l) j ≡ at l j
   zeroed_past n j g h = zeroed_at n j h ∙ rw (le-ltb j n g)

@@ -8,7 +8,7 @@ use lib.Dec.{ltb, eqb}
 use Rattle.laws.specs.Choice.{pick, at}
 use Rattle.laws.specs.Search.{first_below, list_of}
 use Rattle.laws.proofs.Cases.{below?}
-use Rattle.laws.proofs.Lists.{at_past, get_d_list_of, list_of_same}
+use Rattle.laws.proofs.Lists.{at_past, get_or_list_of, list_of_same}
 use Rattle.laws.proofs.Search.{first_below_le, first_below_found, first_below_before, first_below_none, first_below_is}
 use Rattle.model.specs.Sizes.{pages, sets, ways, lines, set_of}
 use Rattle.model.specs.State.{State, line_at, has_key, hit_way}
@@ -21,7 +21,7 @@ use Rattle.cache.specs.Sets.{line_from, set_from, empty_line, way_in, has_key_in
 
 -- a way of a set is a line of the state
 pub way_is : (s : State) (k w : ℕ) → w < ways → way_in (set_from s k) w ≡ line_from s (line_at k w)
-way_is s k w h = get_d_list_of ways (λ w. line_from s (line_at k w)) empty_line w h
+way_is s k w h = get_or_list_of ways (λ w. line_from s (line_at k w)) empty_line w h
 
 -- past the last set each number is 0
 pub set_past : (s : State) (k : ℕ) → Sized s → sets ≤ k → set_from s sets ≡ set_from s k

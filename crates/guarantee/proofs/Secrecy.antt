@@ -10,7 +10,7 @@ use lib.ListN.{length}
 use Rattle.laws.specs.Choice.{pick, at}
 use Rattle.laws.proofs.Cases.{split}
 use Rattle.laws.proofs.Search.{Each}
-use Rattle.laws.proofs.Lists.{get_d_list_of}
+use Rattle.laws.proofs.Lists.{get_or_list_of}
 use Rattle.model.specs.State.{State}
 use Rattle.model.specs.Records.{Bytes}
 use Rattle.model.specs.Valid.{Valid}
@@ -65,8 +65,8 @@ module _ (s : State) (j b : List ℕ) (w : Bytes j) {r : Report} {t : State} {c 
       let n = numbers_back answers b in
       let v = values_back answers b (run_below was_valid (records_of j) (records_bytes j w)) in
       let z : 0 + k ≡ k = omega arith in (
-        ap₂ number_at e z ∙ sym (get_d_list_of (length answers) (number_at (pasted answers b)) 0 k h) ∙ ap (λ (l : List ℕ). at l k) n,
-        ap₂ value_at e z ∙ sym (get_d_list_of (length answers) (value_at (pasted answers b)) 0 k h) ∙ ap (λ (l : List ℕ). at l k) v,
+        ap₂ number_at e z ∙ sym (get_or_list_of (length answers) (number_at (pasted answers b)) 0 k h) ∙ ap (λ (l : List ℕ). at l k) n,
+        ap₂ value_at e z ∙ sym (get_or_list_of (length answers) (value_at (pasted answers b)) 0 k h) ∙ ap (λ (l : List ℕ). at l k) v,
       )
 
 all_bytes : (rs : List (List ℕ)) → Each Bytes rs → AllBytes rs

@@ -12,7 +12,7 @@ use Rattle.laws.specs.Choice.{pick, at}
 use Rattle.laws.specs.Search.{first_from, count_below, list_from, all_below}
 use Rattle.laws.proofs.Cases.{same?, below?}
 use Rattle.laws.proofs.Tests.{eq⇔}
-use Rattle.laws.proofs.Lists.{at_past, get_d_list_of}
+use Rattle.laws.proofs.Lists.{at_past, get_or_list_of}
 use Rattle.laws.proofs.Search.{all⇔}
 use Rattle.laws.proofs.Grid.{row_of_law, column_of, place_below}
 use Rattle.model.specs.Sizes.{guests, physicals, pages, addresses, first_host_page}
@@ -30,7 +30,7 @@ at_zeros n i = below? i n (λ h. get_or-replicate n i 0 0 h) (λ h. at_past (rep
 physical_at : (g pa : ℕ) → g < guests → pa < physicals → at fresh_pages.physical (physicals * g + pa) ≡ pick (eqb pa 0) (suc g) 0
 unfolding fresh_pages
 physical_at g pa hg ha =
-    get_d_list_of (guests * physicals) fresh_physical 0 (physicals * g + pa) (place_below physicals (omega arith) guests g pa hg ha)
+    get_or_list_of (guests * physicals) fresh_physical 0 (physicals * g + pa) (place_below physicals (omega arith) guests g pa hg ha)
     ∙ rw (row_of_law physicals (omega arith) g pa ha, column_of physicals (omega arith) g pa ha)
 
 -- a guest has one page, of its own number, at its physical 0
@@ -42,7 +42,7 @@ fresh_has {g} {pa} {p} h =
 
 kind_at : (g : ℕ) → g < guests → at fresh_pages.kind g ≡ kind_table
 unfolding fresh_pages
-kind_at g h = get_d_list_of pages fresh_kind 0 g (omega arith) ∙ rw (lt-ltb g first_host_page h)
+kind_at g h = get_or_list_of pages fresh_kind 0 g (omega arith) ∙ rw (lt-ltb g first_host_page h)
 
 entry_at : (i : ℕ) → at fresh_pages.entry i ≡ 0
 unfolding fresh_pages

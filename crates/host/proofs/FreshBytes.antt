@@ -8,7 +8,7 @@ use lib.ListN.{length}
 use lib.Seq.{ext_get_or}
 use Rattle.laws.specs.Choice.{at}
 use Rattle.laws.specs.Search.{list_from, list_of}
-use Rattle.laws.proofs.Lists.{length_list_of, get_d_list_of}
+use Rattle.laws.proofs.Lists.{length_list_of, get_or_list_of}
 use Rattle.model.specs.Fresh.{fresh_pages, fresh_guests, fresh_cache, fresh_with, fresh}
 use Rattle.model.specs.Fields.{words}
 use Rattle.model.specs.State.{State}
@@ -25,7 +25,7 @@ filled_fresh xs l e = ap view same ∙ view_fresh
     same : xs ≡ list_of bytes fresh_byte
     same =
         ext_get_or 0 xs (list_of bytes fresh_byte) (l ∙ sym (length_list_of bytes fresh_byte))
-        (λ j h. e j (omega arith) ∙ sym (get_d_list_of bytes fresh_byte 0 j (omega arith)))
+        (λ j h. e j (omega arith) ∙ sym (get_or_list_of bytes fresh_byte 0 j (omega arith)))
 
 -- with the policy that is stored behind
 pub fresh_stored : (s u : State) (n p : ℕ) → s ≡ fresh → n ≡ p → u ≡ put_policy s n → u ≡ fresh_with p

@@ -5,11 +5,11 @@ use Rattle.laws.specs.Choice.{at}
 use Rattle.model.specs.State.{State}
 use Rattle.numbers.specs.declared.calls.CallBytes.{CallBytes}
 use Rattle.numbers.specs.Calls.{call_bytes}
-use Rattle.host.specs.View.{put, call_field, call_afield, call_bfield}
+use Rattle.host.specs.View.{put, call_field, call_a_field, call_b_field}
 
 -- the numbers of guest g's call, and these stored
 abbrev pub stored_call : State → ℕ → CallBytes
 stored_call s g = call_bytes (at s.shape.guests.call g) (at s.shape.guests.call_a g) (at s.shape.guests.call_b g)
 
 abbrev pub put_call : State → ℕ → CallBytes → State
-put_call s g n = put call_bfield (put call_afield (put call_field s g n.number) g n.a) g n.b
+put_call s g n = put call_b_field (put call_a_field (put call_field s g n.number) g n.a) g n.b

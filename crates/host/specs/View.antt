@@ -46,11 +46,11 @@ current_field = 6
 abbrev pub call_field : ℕ
 call_field = 7
 
-abbrev pub call_afield : ℕ
-call_afield = 8
+abbrev pub call_a_field : ℕ
+call_a_field = 8
 
-abbrev pub call_bfield : ℕ
-call_bfield = 9
+abbrev pub call_b_field : ℕ
+call_b_field = 9
 
 abbrev pub line_address_field : ℕ
 line_address_field = 12

@@ -7,7 +7,7 @@ use lib.ListN.{set}
 use Rattle.laws.specs.Choice.{at}
 use Rattle.laws.proofs.Cases.{same?}
 use Rattle.laws.proofs.Lists.{at_same, at_other, at_any}
-use Rattle.model.specs.Sizes.{guests, calls, call_abound, call_bbound}
+use Rattle.model.specs.Sizes.{guests, calls, call_a_bound, call_b_bound}
 use Rattle.model.specs.Names.{running}
 use Rattle.model.specs.State.{State, active, table}
 use Rattle.model.specs.Records.{CallInRange}
@@ -20,10 +20,10 @@ use Rattle.keeps.proofs.Parts.{guests_core}
 use Rattle.keeps.proofs.Stores.{size_set, below_set}
 
 -- arguments that fit are below every argument's bound
-fits_below : (x a b : ℕ) → x < calls → Fits x a b → (a < call_abound) × (b < call_bbound)
+fits_below : (x a b : ℕ) → x < calls → Fits x a b → (a < call_a_bound) × (b < call_b_bound)
 fits_below x a b h f = go x (call_in x a b h f)
   where
-    go : (y : ℕ) → CallInRange y a b → (a < call_abound) × (b < call_bbound)
+    go : (y : ℕ) → CallInRange y a b → (a < call_a_bound) × (b < call_b_bound)
     go zero w = (omega (arith, w.0), omega (arith, w.1))
     go (suc zero) w = w
     go (suc (suc zero)) w = (w.0, omega (arith, w.1))

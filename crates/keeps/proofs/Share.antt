@@ -11,7 +11,7 @@ use lib.ListN.{length, set}
 use borrow.Author.Tests.{eq-eqb, ne_eqb, ltb-true}
 use Rattle.laws.specs.Choice.{pick, at}
 use Rattle.laws.proofs.Cases.{same?, pick_both}
-use Rattle.laws.proofs.Lists.{at_other, at_any, length_list_of, get_d_list_of}
+use Rattle.laws.proofs.Lists.{at_other, at_any, length_list_of, get_or_list_of}
 use Rattle.model.specs.Sizes.{pages, ways, lines, stealth, stealth_set, value_bound}
 use Rattle.model.specs.State.{State, table, line_at, stealth_line, line_of_page, present}
 use Rattle.model.specs.Rules.{Maps, Below, Rule6, Rule7, Leads, Rule9}
@@ -33,11 +33,11 @@ uncached s q =
 module _ (line_page : List ℕ) (q : ℕ) where
   pub gone : (l : List ℕ) (j : ℕ) → j < lines → at line_page j ≡ suc q → at (cleared line_page q l) j ≡ 0
   gone l j hj e =
-      get_d_list_of lines (λ i. pick (eqb (at line_page i) (suc q)) 0 (at l i)) 0 j hj ∙ rw (eq-eqb (at line_page j) (suc q) e)
+      get_or_list_of lines (λ i. pick (eqb (at line_page i) (suc q)) 0 (at l i)) 0 j hj ∙ rw (eq-eqb (at line_page j) (suc q) e)
 
   pub kept : (l : List ℕ) (j : ℕ) → j < lines → at line_page j ≢ suc q → at (cleared line_page q l) j ≡ at l j
   kept l j hj n =
-      get_d_list_of lines (λ i. pick (eqb (at line_page i) (suc q)) 0 (at l i)) 0 j hj ∙ rw (ne_eqb (at line_page j) (suc q) n)
+      get_or_list_of lines (λ i. pick (eqb (at line_page i) (suc q)) 0 (at l i)) 0 j hj ∙ rw (ne_eqb (at line_page j) (suc q) n)
 
   -- a fact of 0 and of what stood there
   either : (P : ℕ → Type 0) (l : List ℕ) (j : ℕ) → j < lines → P 0 → P (at l j) → P (at (cleared line_page q l) j)

@@ -55,17 +55,17 @@ module _ {ℓ} {A : Type ℓ} where
   length_list_from zero i f = refl
   length_list_from (suc n) i f = ap suc (length_list_from n (suc i) f)
 
-  get_d_list_from : (n i j : ℕ) (f : ℕ → A) (d : A) → j < n → get_or (list_from n i f) j d ≡ f (i + j)
+  get_or_list_from : (n i j : ℕ) (f : ℕ → A) (d : A) → j < n → get_or (list_from n i f) j d ≡ f (i + j)
   unfolding list_from
-  get_d_list_from zero i j f d h = absurd (omega arith)
-  get_d_list_from (suc n) i zero f d h = ap f (sym (add-zero i))
-  get_d_list_from (suc n) i (suc j) f d h = get_d_list_from n (suc i) j f d (omega arith) ∙ ap f (suc-add i j ∙ sym (add-suc i j))
+  get_or_list_from zero i j f d h = absurd (omega arith)
+  get_or_list_from (suc n) i zero f d h = ap f (sym (add-zero i))
+  get_or_list_from (suc n) i (suc j) f d h = get_or_list_from n (suc i) j f d (omega arith) ∙ ap f (suc-add i j ∙ sym (add-suc i j))
 
   pub length_list_of : (n : ℕ) (f : ℕ → A) → length (list_of n f) ≡ n
   length_list_of n f = length_list_from n 0 f
 
-  pub get_d_list_of : (n : ℕ) (f : ℕ → A) (d : A) (j : ℕ) → j < n → get_or (list_of n f) j d ≡ f j
-  get_d_list_of n f d j h = get_d_list_from n 0 j f d h ∙ ap f (zero-add j)
+  pub get_or_list_of : (n : ℕ) (f : ℕ → A) (d : A) (j : ℕ) → j < n → get_or (list_of n f) j d ≡ f j
+  get_or_list_of n f d j h = get_or_list_from n 0 j f d h ∙ ap f (zero-add j)
 
   -- the first m places and the n after them
   pub list_from_append : (m n i : ℕ) (f : ℕ → A) → list_from (m + n) i f ≡ list_from m i f ++ list_from n (i + m) f
@@ -90,7 +90,7 @@ module _ {ℓ} {A : Type ℓ} where
   pub list_of_same : (n : ℕ) {f g : ℕ → A} (d : A) → ((i : ℕ) → i < n → f i ≡ g i) → list_of n f ≡ list_of n g
   list_of_same n {f} {g} d h =
       ext_get_or d (list_of n f) (list_of n g) (length_list_of n f ∙ sym (length_list_of n g))
-      (λ i k. let l : i < n = omega (arith, length_list_of n f) in get_d_list_of n f d i l ∙ h i l ∙ sym (get_d_list_of n g d i l))
+      (λ i k. let l : i < n = omega (arith, length_list_of n f) in get_or_list_of n f d i l ∙ h i l ∙ sym (get_or_list_of n g d i l))
 
 -- ---- a list filled from its start on
 

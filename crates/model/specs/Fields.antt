@@ -3,7 +3,7 @@
 use Rattle.std.specs.Prelude.{List, [], ◌∷◌, ◌++◌, ℕ, zero, suc, ◌+◌, ◌*◌, ◌/◌, ◌%◌, ◌<◌, drop}
 use Rattle.laws.specs.Choice.{at}
 use Rattle.laws.specs.Cut.{part}
-use Rattle.model.specs.Sizes.{guests, physicals, pages, addresses, lines, sets, slots, calls, call_abound, call_bbound, marks_bound, policies, byte_bound, value_bound, value_bytes, map_bytes}
+use Rattle.model.specs.Sizes.{guests, physicals, pages, addresses, lines, sets, slots, calls, call_a_bound, call_b_bound, marks_bound, policies, byte_bound, value_bound, value_bytes, map_bytes}
 use Rattle.model.specs.Names.{owner_guest, kind_table, running}
 use Rattle.model.specs.History.{histories}
 use Rattle.model.specs.State.{State}
@@ -45,8 +45,8 @@ field_bounds =
     ∷ byte_bound  -- 5 free
     ∷ physicals  -- 6 current
     ∷ calls  -- 7 call
-    ∷ call_abound  -- 8 call_a
-    ∷ call_bbound  -- 9 call_b
+    ∷ call_a_bound  -- 8 call_a
+    ∷ call_b_bound  -- 9 call_b
     ∷ guests  -- 10 active
     ∷ suc running  -- 11 mode
     ∷ addresses  -- 12 line_address

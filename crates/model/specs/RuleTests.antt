@@ -6,7 +6,7 @@ use Rattle.std.specs.Bool.{beq}
 use Rattle.laws.specs.Choice.{pick, at, ◌⇒◌}
 use Rattle.laws.specs.Search.{some_below, all_below, some_in, all_in}
 use Rattle.laws.specs.Bits.{marks}
-use Rattle.model.specs.Sizes.{guests, physicals, pages, addresses, first_host_page, first_free_page, ways, lines, sets, slots, stealth, stealth_set, reserved, set_of, slot_of, calls, call_abound, call_bbound, marks_bound, policies, value_bound}
+use Rattle.model.specs.Sizes.{guests, physicals, pages, addresses, first_host_page, first_free_page, ways, lines, sets, slots, stealth, stealth_set, reserved, set_of, slot_of, calls, call_a_bound, call_b_bound, marks_bound, policies, value_bound}
 use Rattle.model.specs.Names.{owner_none, owner_host, owner_guest, kind_none, kind_data, kind_table, running, write_through}
 use Rattle.model.specs.State.{State, lead, is_page, nowhere, stealth_line, line_at, maps_page}
 use Rattle.model.specs.History.{start, histories}
@@ -155,8 +155,8 @@ columns s =
     ∷ column (P.free ∷ []) 1 (2 ^ pages)
     ∷ column G.current guests physicals
     ∷ column G.call guests calls
-    ∷ column G.call_a guests call_abound
-    ∷ column G.call_b guests call_bbound
+    ∷ column G.call_a guests call_a_bound
+    ∷ column G.call_b guests call_b_bound
     ∷ column (G.active ∷ []) 1 guests
     ∷ column (G.mode ∷ []) 1 (suc running)
     ∷ column C.line_address lines addresses

@@ -4,7 +4,7 @@
 use Rattle.std.specs.Prelude.{◌≡◌, false, ◌⊎◌, ◌≢◌, ◌↔◌, List, ℕ, suc, ◌+◌, ◌*◌, ◌/◌, ◌^◌, ◌≤◌, ◌<◌}
 use Rattle.laws.specs.Choice.{at}
 use Rattle.laws.specs.Bits.{bit}
-use Rattle.model.specs.Sizes.{guests, physicals, pages, addresses, first_host_page, first_free_page, ways, lines, sets, slots, stealth, stealth_set, reserved, set_of, slot_of, calls, call_abound, call_bbound, marks_bound, policies, value_bound}
+use Rattle.model.specs.Sizes.{guests, physicals, pages, addresses, first_host_page, first_free_page, ways, lines, sets, slots, stealth, stealth_set, reserved, set_of, slot_of, calls, call_a_bound, call_b_bound, marks_bound, policies, value_bound}
 use Rattle.model.specs.Names.{owner_none, owner_host, owner_guest, kind_none, kind_data, kind_table, running, write_through}
 use Rattle.model.specs.State.{Pages, Guests, Cache, Tlb, Values, State, stealth_line, line_at}
 use Rattle.model.specs.History.{start, histories}
@@ -139,8 +139,8 @@ pub record PagesIn (p : Pages) : Type 0 where
 pub record GuestsIn (g : Guests) : Type 0 where
   pub current : Below g.current guests physicals
   pub call : Below g.call guests calls
-  pub call_a : Below g.call_a guests call_abound
-  pub call_b : Below g.call_b guests call_bbound
+  pub call_a : Below g.call_a guests call_a_bound
+  pub call_b : Below g.call_b guests call_b_bound
   pub arguments : (i : ℕ) → i < guests → Fits (at g.call i) (at g.call_a i) (at g.call_b i)
   pub active : g.active < guests
   pub mode : g.mode < suc running

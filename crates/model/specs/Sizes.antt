@@ -81,11 +81,11 @@ abbrev pub calls : ℕ
 calls = 6
 
 -- the largest range of a call's first argument, and of its second
-abbrev pub call_abound : ℕ
-call_abound = addresses
+abbrev pub call_a_bound : ℕ
+call_a_bound = addresses
 
-abbrev pub call_bbound : ℕ
-call_bbound = physicals
+abbrev pub call_b_bound : ℕ
+call_b_bound = physicals
 
 -- bytes of a record, of its answer and of a journal's header; records of a journal
 abbrev pub record_bytes : ℕ

@@ -2,7 +2,7 @@
 -- Assumes nothing.
 use Rattle.std.specs.Prelude.{Bool, true, ◌&&◌, List, [], ◌∷◌, ℕ, suc, ◌+◌, ◌*◌, ◌/◌, ◌%◌, ltb, eqb, length}
 use Rattle.laws.specs.Choice.{pick, at}
-use Rattle.model.specs.Sizes.{guests, physicals, pages, addresses, calls, call_abound, call_bbound, marks_bound, policies}
+use Rattle.model.specs.Sizes.{guests, physicals, pages, addresses, calls, call_a_bound, call_b_bound, marks_bound, policies}
 use Rattle.model.specs.Names.{owner_guest, kind_table, running}
 use Rattle.model.specs.State.{State}
 use Rattle.model.specs.History.{histories}
@@ -20,7 +20,7 @@ place_in_range s i = ltb (at s.shape.pages.physical (physicals * (i / physicals)
 unfoldable pub guest_in_range : State → ℕ → Bool
 guest_in_range s g =
     let G = s.shape.guests in
-    ltb (at G.current g) physicals && ltb (at G.call g) calls && ltb (at G.call_a g) call_abound && ltb (at G.call_b g) call_bbound
+    ltb (at G.current g) physicals && ltb (at G.call g) calls && ltb (at G.call_a g) call_a_bound && ltb (at G.call_b g) call_b_bound
     && fits (at G.call g) (at G.call_a g) (at G.call_b g)
 
 unfoldable pub line_in_range : State → ℕ → Bool
@@ -45,7 +45,7 @@ entry_in_range s m va = ltb (at s.shape.pages.entry (addresses * m + va)) (suc p
 -- the bounds of the fields that are lists of bytes, by their number; of the three among them that are none 1, since they have no number but 0
 abbrev pub list_bounds : List ℕ
 list_bounds =
-    owner_guest guests ∷ suc kind_table ∷ marks_bound ∷ suc pages ∷ suc pages ∷ 1 ∷ physicals ∷ calls ∷ call_abound ∷ call_bbound ∷ 1 ∷ 1 ∷ addresses ∷ suc pages
+    owner_guest guests ∷ suc kind_table ∷ marks_bound ∷ suc pages ∷ suc pages ∷ 1 ∷ physicals ∷ calls ∷ call_a_bound ∷ call_b_bound ∷ 1 ∷ 1 ∷ addresses ∷ suc pages
     ∷ histories
     ∷ addresses
     ∷ suc pages

@@ -10,7 +10,7 @@ use Rattle.laws.specs.Search.{all_below}
 use Rattle.laws.proofs.Tests.{eq⇔, lt⇔, and⇔, imp⇔, as⇔, agree}
 use Rattle.laws.proofs.Search.{all⇔}
 use Rattle.laws.proofs.Grid.{place_of}
-use Rattle.model.specs.Sizes.{guests, physicals, pages, addresses, lines, sets, slots, calls, call_abound, call_bbound, marks_bound, policies}
+use Rattle.model.specs.Sizes.{guests, physicals, pages, addresses, lines, sets, slots, calls, call_a_bound, call_b_bound, marks_bound, policies}
 use Rattle.model.specs.Names.{owner_guest, kind_table, running}
 use Rattle.model.specs.State.{State}
 use Rattle.model.specs.History.{histories}
@@ -36,13 +36,13 @@ module _ (s : State) where
   unfolding entry_in_range
   entry⇔ i h = rw (place_of addresses (omega arith) i) (lt⇔ (at s.shape.pages.entry i) (suc pages))
 
-  guest⇔ : (g : ℕ) → g < guests → guest_in_range s g ⇔ ((((((at s.shape.guests.current g < physicals) × (at s.shape.guests.call g < calls)) × (at s.shape.guests.call_a g < call_abound))
-      × (at s.shape.guests.call_b g < call_bbound))
+  guest⇔ : (g : ℕ) → g < guests → guest_in_range s g ⇔ ((((((at s.shape.guests.current g < physicals) × (at s.shape.guests.call g < calls)) × (at s.shape.guests.call_a g < call_a_bound))
+      × (at s.shape.guests.call_b g < call_b_bound))
       × Fits (at s.shape.guests.call g) (at s.shape.guests.call_a g) (at s.shape.guests.call_b g)))
   unfolding guest_in_range
   guest⇔ g h =
       let G = s.shape.guests in
-      and⇔ (and⇔ (and⇔ (and⇔ (lt⇔ (at G.current g) physicals) (lt⇔ (at G.call g) calls)) (lt⇔ (at G.call_a g) call_abound)) (lt⇔ (at G.call_b g) call_bbound))
+      and⇔ (and⇔ (and⇔ (and⇔ (lt⇔ (at G.current g) physicals) (lt⇔ (at G.call g) calls)) (lt⇔ (at G.call_a g) call_a_bound)) (lt⇔ (at G.call_b g) call_b_bound))
       (within⇔ (row_of (kind_of_call (at G.call g))) (at G.call_a g) (at G.call_b g))
 
   line⇔ : (i : ℕ) → i < lines → line_in_range s i ⇔ ((((at s.shape.cache.line_address i < addresses) × (at s.shape.cache.line_page i < suc pages))

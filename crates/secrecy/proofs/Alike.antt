@@ -12,7 +12,7 @@ use lib.Seq.{set_out}
 use borrow.Author.Tests.{lt-ltb, eq-eqb, ne_eqb}
 use Rattle.laws.specs.Choice.{pick, at}
 use Rattle.laws.proofs.Cases.{same?, below?, pick_not}
-use Rattle.laws.proofs.Lists.{at_past, at_same, at_other, length_list_of, get_d_list_of}
+use Rattle.laws.proofs.Lists.{at_past, at_same, at_other, length_list_of, get_or_list_of}
 use Rattle.model.specs.Sizes.{pages, lines}
 use Rattle.model.specs.Names.{owner_guest}
 use Rattle.model.specs.State.{Shape, Values, lead, nowhere, line_of_page, present}
@@ -182,12 +182,12 @@ module _ {g : ℕ} (h : Shape) {v w : Values} (a : Alike g h.pages.owner h.cache
             (λ _ e. present_alike p (λ o. n (ap (at h.pages.owner) e ∙ o))) (λ _. a.memory q n);
         line = λ i n.
             below? i lines
-            (λ b. get_d_list_of lines (clear v.line) 0 i b
+            (λ b. get_or_list_of lines (clear v.line) 0 i b
             ∙ same? (at h.cache.line_page i) (suc p) (λ e. rw (eq-eqb (at h.cache.line_page i) (suc p) e))
             (λ d.
             let t = ne_eqb (at h.cache.line_page i) (suc p) d in
-            rw t (a.line i (λ o. n (ap (λ (x : ℕ). at h.pages.owner (lead x)) (get_d_list_of lines (clear h.cache.line_page) 0 i b ∙ pick_not 0 (at h.cache.line_page i) t) ∙ o))))
-            ∙ sym (get_d_list_of lines (clear w.line) 0 i b))
+            rw t (a.line i (λ o. n (ap (λ (x : ℕ). at h.pages.owner (lead x)) (get_or_list_of lines (clear h.cache.line_page) 0 i b ∙ pick_not 0 (at h.cache.line_page i) t) ∙ o))))
+            ∙ sym (get_or_list_of lines (clear w.line) 0 i b))
             (λ b. at_past (cleared h.cache.line_page p v.line) i (omega (arith, length_list_of lines (clear v.line)))
             ∙ sym (at_past (cleared h.cache.line_page p w.line) i (omega (arith, length_list_of lines (clear w.line)))));
       }

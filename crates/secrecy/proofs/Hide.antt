@@ -12,7 +12,7 @@ use lib.Dec.{eqb}
 use Rattle.laws.specs.Choice.{pick, at}
 use Rattle.laws.specs.Search.{list_of}
 use Rattle.laws.proofs.Cases.{same?, below?, pick_yes, pick_not}
-use Rattle.laws.proofs.Lists.{at_past, at_other, length_list_of, get_d_list_of, list_of_same}
+use Rattle.laws.proofs.Lists.{at_past, at_other, length_list_of, get_or_list_of, list_of_same}
 use Rattle.model.specs.Sizes.{pages, lines, slot_of, stealth}
 use Rattle.model.specs.Names.{owner_guest}
 use Rattle.model.specs.State.{Shape, Tlb, Values, State, lead}
@@ -32,7 +32,7 @@ veiled g owner page l i = pick (eqb (at owner (page i)) (owner_guest g)) 0 (at l
 veiled_others : (g : ℕ) (owner : List ℕ) (page : ℕ → ℕ) (n : ℕ) (l : List ℕ) → length l ≡ n → (i : ℕ) → Others g owner (page i)
     → at l i ≡ at (list_of n (veiled g owner page l)) i
 veiled_others g owner page n l e i o =
-    below? i n (λ h. sym (get_d_list_of n (veiled g owner page l) 0 i h ∙ pick_not 0 (at l i) (ne_eqb (at owner (page i)) (owner_guest g) o)))
+    below? i n (λ h. sym (get_or_list_of n (veiled g owner page l) 0 i h ∙ pick_not 0 (at l i) (ne_eqb (at owner (page i)) (owner_guest g) o)))
     (λ h. at_past l i (omega arith) ∙ sym (at_past (list_of n (veiled g owner page l)) i (omega (arith, length_list_of n (veiled g owner page l)))))
 
 -- where numbers differ in g's places alone, the same is left

@@ -13,7 +13,7 @@ use Rattle.laws.specs.Choice.{pick, at}
 use Rattle.laws.specs.Search.{list_of}
 use Rattle.laws.proofs.Cases.{split, below?, pick_yes, pick_not}
 use Rattle.laws.proofs.Tests.{eq⇔, or⇔}
-use Rattle.laws.proofs.Lists.{at_past, length_list_of, get_d_list_of}
+use Rattle.laws.proofs.Lists.{at_past, length_list_of, get_or_list_of}
 use Rattle.model.specs.Sizes.{record_bytes}
 use Rattle.model.specs.Records.{Action, write, write_hyper, fields, well_formed, word_at, has_value, decode}
 use Rattle.secrecy.specs.Secrecy.{is_of_value, blanked}
@@ -27,7 +27,7 @@ blanked_other : (r : List ℕ) (i : ℕ) → is_of_value i ≡ false → at (bla
 unfolding blanked
 blanked_other r i e =
     let f : ℕ → ℕ = λ j. pick (is_of_value j) 0 (at r j) in
-    below? i (length r) (λ h. get_d_list_of (length r) f 0 i h ∙ pick_not 0 (at r i) e)
+    below? i (length r) (λ h. get_or_list_of (length r) f 0 i h ∙ pick_not 0 (at r i) e)
     (λ h. at_past (list_of (length r) f) i (omega (arith, length_list_of (length r) f)) ∙ sym (at_past r i h))
 
 -- ---- writes, by their first four bytes

@@ -9,7 +9,7 @@ use Rattle.laws.specs.Cut.{joined}
 use Rattle.laws.specs.Search.{first_from, list_from, list_of}
 use Rattle.laws.proofs.Tests.{and⇔, le⇔}
 use Rattle.laws.proofs.Search.{all⇔}
-use Rattle.laws.proofs.Lists.{get_d_list_of}
+use Rattle.laws.proofs.Lists.{get_or_list_of}
 use Rattle.print.specs.Text.{Page, typed_all}
 use Rattle.print.proofs.Typing.{ends}
 use Rattle.words.specs.Words.{field_names}
@@ -34,7 +34,7 @@ unfolding list_from
 parts = refl
 
 pub name_is : (k : ℕ) → k < length field_names → part k ≡ get_or field_names k []
-name_is k h = sym (get_d_list_of (length field_names) part [] k h) ∙ ap (λ (l : List (List ℕ)). get_or l k []) parts
+name_is k h = sym (get_or_list_of (length field_names) part [] k h) ∙ ap (λ (l : List (List ℕ)). get_or l k []) parts
 
 pub no_name : (p : Page) (k : ℕ) → length field_names ≤ k → p ≡ typed_all p (get_or field_names k [])
 no_name p k h = ends p (get_or field_names k []) (get_or-eq_default field_names [] h)

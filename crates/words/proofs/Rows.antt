@@ -9,7 +9,7 @@ use lib.Seq.{get_or-append-add}
 use Rattle.laws.specs.Search.{list_from, list_of}
 use Rattle.laws.proofs.Cases.{below?}
 use Rattle.laws.proofs.Others.{Others, none_left}
-use Rattle.laws.proofs.Lists.{length_list_of, get_d_list_of}
+use Rattle.laws.proofs.Lists.{length_list_of, get_or_list_of}
 use Rattle.print.specs.Text.{Page, typed_all}
 use Rattle.words.specs.Words.{Form, a_guest, a_way, a_slot, a_number, no_form, forms, field_names, form_of, words_of}
 use Rattle.words.specs.declared.Form as declared
@@ -53,7 +53,7 @@ number_there k h =
     sym
     (ap (λ (r : List Form). get_or r k no_form) numbers_row
     ∙ get_or-append field_forms other_forms no_form k (omega arith)
-    ∙ get_d_list_of (length field_names) a_number no_form k h)
+    ∙ get_or_list_of (length field_names) a_number no_form k h)
 
 number_behind : (k : ℕ) → length field_names ≤ k → form_of numbers_rule k ≡ get_or other_forms (k - length field_names) no_form
 unfolding form_of
