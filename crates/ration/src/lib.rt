@@ -12,7 +12,7 @@ ghost use Rattle.model.specs.Fresh.{fresh};
 ghost use Rattle.model.specs.Valid.{valid?};
 ghost use Rattle.model.specs.Image.{image_bytes};
 ghost use Rattle.model.specs.Pieces.{beginning};
-ghost use Rattle.host.specs.View.{bytes as stateBytes, view};
+ghost use Rattle.host.specs.View.{bytes as state_bytes, view};
 ghost use Rattle.ration.specs.Promises.{report_size, StartsBytes, StepsBytes, RunsBytes, LoadsBytes, SavesBytes, OpensBytes, ChecksBytes, FeedsBytes};
 
 use host::{Host, WritePolicy};
@@ -27,7 +27,7 @@ const NOT_VALID: u8 = 1;
 
 // The bytes of a state.
 pub fn ration_size() -> usize
-    ensures { result ≡ stateBytes }
+    ensures { result ≡ state_bytes }
 {
     host::SIZE
 }

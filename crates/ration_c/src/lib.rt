@@ -10,7 +10,7 @@ ghost use Rattle.model.specs.Fresh.{fresh};
 ghost use Rattle.model.specs.Valid.{valid?};
 ghost use Rattle.model.specs.Image.{image_bytes};
 ghost use Rattle.model.specs.Pieces.{beginning};
-ghost use Rattle.host.specs.View.{bytes as stateBytes, view};
+ghost use Rattle.host.specs.View.{bytes as state_bytes, view};
 ghost use Rattle.ration.specs.Promises.{report_size, StartsBytes, StepsBytes, RunsBytes, LoadsBytes, SavesBytes, OpensBytes, ChecksBytes, FeedsBytes};
 
 use host::Host;
@@ -20,7 +20,7 @@ use ration::REPORT;
 // The bytes of a state.
 #[unsafe(no_mangle)]
 pub extern "C" fn ration_size() -> usize
-    ensures { result ≡ stateBytes }
+    ensures { result ≡ state_bytes }
 {
     ration::ration_size()
 }
