@@ -4,6 +4,7 @@ pub mod Parts
 pub mod Journals
 pub mod Folds
 pub mod Resumes
+pub mod Fed
 pub mod Pieces
 pub mod Images
 pub mod Policies
