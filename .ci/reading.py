@@ -132,12 +132,29 @@ class Function:
         name, _, kind = word.partition(":")
         return re.sub(r"^\s*mut\s+", "", name).strip(), kind.strip()
 
+    def converts(self, text, how, of, to):
+        """The function of a conversion: in a library it is public, and its promise is what the impl says that it gives, as an equation."""
+        if self.crate not in libraries():
+            return
+        gives = re.search(r"\bghost\s+(?:try_)?from_gives\s*=\s*\{\s*λ\s+([\w']+)\s+([\w']+)\.(.*?)\}\s*;", text, re.S)
+        if not gives or gives[1] == gives[2]:
+            complain(f"{self.file}: {how}<{of}> for {to}: nothing says what it gives")
+            return
+        said = re.sub(rf"(?<![\w'.]){re.escape(gives[2])}(?![\w'])", "result", gives[3]).strip()
+        self.public, self.name = True, f"{to}::{self.bare}({of})"
+        self.contract["ensures"].append(said)
+
     @property
     def path(self):
         return f"{self.crate}::{self.name}"
 
 
 HEAD = re.compile(r'\b(?P<pub>pub(?:\s*\([^)]*\))?)?\s*(?P<how>(?:\b(?:const|unsafe|async|extern\s*(?:"C")?)\s+)*)\bfn\s+(?P<name>\w+)\s*')
+
+
+IMPL = r"impl\b\s*(?:<[^>]*>)?\s*(\w+)"
+CONVERSION = re.compile(r"impl\s+(From|TryFrom)<([\w<>]+)>\s+for\s+(\w+)")  # a public function, `B::from(A)`
+MODEL = re.compile(r"impl\b\s*(?:<[^>]*>)?\s*Model\s+for\s+\w+(?:<[^>]*>)?")  # what a type is read as: it has no function that runs
 
 
 def sources(crate):
@@ -151,13 +168,18 @@ def functions(crate):
     for file in sources(crate):
         text = rattle(file)
         for word in re.findall(r"\btrait\s+\w+|\bimpl\b[^{;]*\bfor\b[^{;]*|\bmacro_rules\b|\binclude\s*!|#\s*\[\s*path\b", text):
-            complain(f"{file}: {word.strip()}: the checks do not read such a thing")
-        types = [(m.start(), closed(text, m.end() - 1), m[1]) for m in re.finditer(r"\bimpl\b\s*(?:<[^>]*>)?\s*(\w+)[^{;]*\{", text)]
+            if not CONVERSION.fullmatch(word.strip()) and not MODEL.fullmatch(word.strip()):
+                complain(f"{file}: {word.strip()}: the checks do not read such a thing")
+        types = [(m.start(), closed(text, m.end() - 1), m[0]) for m in re.finditer(r"\bimpl\b\s*(?:<[^>]*>)?\s*\w+[^{;]*\{", text)]
         for head in HEAD.finditer(text):
             function = Function(crate, file, text, head)
             for start, end, name in types:
                 if start < function.start < end:
-                    function.name = f"{name}::{function.bare}"
+                    conversion = CONVERSION.fullmatch(name[:-1].strip())
+                    if conversion:
+                        function.converts(text[start:end], *conversion.groups())
+                    else:
+                        function.name = f"{re.match(IMPL, name)[1]}::{function.bare}"
             found.append(function)
     return found
 

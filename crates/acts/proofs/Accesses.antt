@@ -1,7 +1,7 @@
 -- The cache's part of a step and the rest of it; and the stealth line.
 -- Assumes nothing.
 use mathlib.Core.Path.{◌≡◌, sym, ap, ◌∙◌}
-use Prim.Native.Nat.{ℕ, suc, ◌≤◌, ◌<◌}
+use Prim.Native.Nat.{ℕ, suc, ◌<◌}
 use native.Mathlib.Omega.{arith}
 use lib.Seq.{set_out}
 use Rattle.laws.specs.Choice.{pick, at}
@@ -15,15 +15,14 @@ use Rattle.model.specs.Write.{store, write_step}
 use Rattle.model.specs.NewSm.{new_sm_step}
 use Rattle.model.specs.Valid.{Sized}
 use Rattle.numbers.specs.declared.Ma.{Ma}
-use Rattle.numbers.specs.declared.Lead.{Lead}
-use Rattle.numbers.specs.declared.Lead.TheVariants.{To, Nowhere}
+use Rattle.std.specs.Prelude.{Option}
+use Rattle.std.specs.Prelude.{Some, None}
 use Rattle.numbers.specs.Lead.{toward}
-use Rattle.cache.specs.declared.Purpose.TheVariants.{Read, Write}
 use Rattle.cache.specs.Lines.{found, accessed_for, Accesses}
 use Rattle.cache.proofs.Accesses.{read_is_access, found_read}
 use Rattle.acts.specs.Mapped.{idle}
 use Rattle.acts.specs.Reads.{Reads}
-use Rattle.acts.proofs.Pages.{led, led_nowhere, for_page, no_page}
+use Rattle.acts.proofs.Pages.{led_nowhere, for_page}
 
 -- ---- read and write
 
@@ -31,7 +30,7 @@ abbrev translated : ℕ → ℕ → State → State
 translated va p x = shaped x (translate x.shape va p)
 
 module _ (s : State) (va p : ℕ) (h : p < pages) (t u : State) (f : u ≡ pick (is_page p) (translated va p t) t) where
-  pub reads : (v : ℕ) → Accesses s va p Read v t → Reads s va p v u
+  pub reads : (v : ℕ) → Accesses s va p None v t → Reads s va p v u
   unfolding accessed_for
   reads v a =
       record {
@@ -41,32 +40,17 @@ module _ (s : State) (va p : ℕ) (h : p < pages) (t u : State) (f : u ≡ pick 
       }
 
   -- the TLB's slot and what is stored are apart
-  pub writes : (n v : ℕ) → Accesses s va p (Write n) v t → u ≡ pick (is_page p) (write_step s va p n) s
+  pub writes : (n v : ℕ) → Accesses s va p (Some n) v t → u ≡ pick (is_page p) (write_step s va p n) s
   unfolding accessed_for write_step store hit_way
   writes n v a =
       f ∙ for_page p (translated va p t) t h ∙ ap (translated va p) a.state ∙ ap (λ (x : State). store x va p n) (sym (read_is_access s va p))
       ∙ sym (for_page p (write_step s va p n) s h)
 
--- what is no page is not read
-pub no_read : (s : State) (va p : ℕ) → pages ≤ p → Reads s va p 0 s
-no_read s va p l =
-    record {
-      value = sym (pick_not (found (read_step s va p) va p) 0 (not_so (lt⇔ p pages) (λ h. omega arith)));
-      state = sym (no_page p (read_step s va p) s l);
-    }
-
 -- ---- the stealth line
 
-module _ (s : State) (n : ℕ) (l : Lead) (e : l ≡ toward n) where
-  pub stealth_enters : (p : Ma) → l ≡ To p → (u : State) → u ≡ pick (is_page p.0) (enter s stealth_line stealth p.0) s
-      → u ≡ enter s (pick (is_page n) stealth_line no_line) stealth n
-  stealth_enters p f u g =
-      let d = led n l e p f in
-      let i : pick (is_page n) stealth_line no_line ≡ stealth_line = pick_yes stealth_line no_line ((lt⇔ n pages).1 d.0) in
-      g ∙ for_page p.0 (enter s stealth_line stealth p.0) s (omega (arith, d.0, d.1)) ∙ (λ j. enter s (sym i j) stealth (d.1 j))
-
+module _ (s : State) (n : ℕ) (l : Option Ma) (e : l ≡ toward n) where
   -- no line is past the last
-  pub stealth_stays : l ≡ Nowhere → Sized s → s ≡ enter s (pick (is_page n) stealth_line no_line) stealth n
+  pub stealth_stays : l ≡ None → Sized s → s ≡ enter s (pick (is_page n) stealth_line no_line) stealth n
   unfolding enter
   stealth_stays f z =
       let i : pick (is_page n) stealth_line no_line ≡ no_line =

@@ -1,67 +1,62 @@
--- The line that an address had, and a page that is shared, as code finds them.
+-- The line that an address had, as code finds it.
 -- Assumes nothing.
 use mathlib.Core.Path.{◌≡◌, sym, ap, ◌∙◌}
-use mathlib.Core.Bool.{Bool, true, false, not}
-use Prim.Native.Nat.{ℕ, ◌≤◌, ◌<◌}
+use mathlib.Core.Bool.{true}
+use Prim.Native.Nat.{ℕ, ◌<◌}
 use native.Mathlib.Omega.{arith}
-use lib.Dec.{eqb}
-use Rattle.laws.specs.Choice.{pick}
-use Rattle.laws.proofs.Cases.{pick_yes, pick_not}
-use Rattle.laws.proofs.Tests.{lt⇔, not_so}
-use Rattle.model.specs.Sizes.{pages, ways, set_of}
-use Rattle.model.specs.State.{Shape, State, is_page, mapped, hit_way, no_line, line_at, line_of}
-use Rattle.model.specs.Parts.{shaped, lose_mark, take_out_page}
-use Rattle.model.specs.New.{old_line, is_shared}
-use Rattle.numbers.specs.declared.Ma.{Ma}
-use Rattle.numbers.specs.declared.Lead.{Lead}
-use Rattle.numbers.specs.declared.Lead.TheVariants.{To, Nowhere}
-use Rattle.numbers.specs.Lead.{toward}
+use lib.Seq.{set_out}
+use borrow.Author.Tests.{lt-ltb, le-ltb}
+use Rattle.laws.specs.Choice.{at}
+use Rattle.laws.proofs.Cases.{pick_yes}
+use Rattle.laws.proofs.Tests.{lt⇔}
+use Rattle.laws.proofs.Lists.{at_past}
+use Rattle.model.specs.Sizes.{pages, ways, lines, set_of}
+use Rattle.model.specs.State.{State, is_page, lead, nowhere, mapped, hit_way, no_line, line_at, line_of}
+use Rattle.model.specs.Parts.{take_out}
+use Rattle.model.specs.Valid.{Sized}
+use Rattle.model.specs.New.{old_line}
+use Rattle.std.specs.Prelude.{Some, None}
 use Rattle.cache.specs.declared.Set.{Set}
-use Rattle.cache.specs.Sets.{set_from, find_in}
+use Rattle.cache.specs.Sets.{if_below, set_from, find_in}
+use Rattle.cache.proofs.Found.{below_some, below_none}
 use Rattle.cache.proofs.Sets.{find_is_hit}
-use Rattle.asks.specs.Maps.{maps_page_of}
-use Rattle.acts.specs.Mapped.{former_line, shared}
-use Rattle.acts.proofs.Pages.{led, led_nowhere, for_page}
+use Rattle.acts.specs.Mapped.{former_line}
 
 -- ---- the line of an address and a page
 
-module _ (s : State) (va p w : ℕ) (x : Set) (h : p < pages) (e : x ≡ set_from s (set_of va)) (f : w ≡ find_in x va p) where
-  hit : w ≡ hit_way s.shape va p
-  hit = f ∙ ap (λ (y : Set). find_in y va p) e ∙ find_is_hit s va p h
+module _ (s : State) (va p : ℕ) (x : Set) (l : p < pages) (m : p ≡ mapped s.shape va) (e : x ≡ set_from s (set_of va)) where
+  hit : find_in x va p ≡ hit_way s.shape va (mapped s.shape va)
+  hit = ap (λ (y : Set). find_in y va p) e ∙ find_is_hit s va p l ∙ ap (hit_way s.shape va) m
 
-  pub line_found : w < ways → line_at (set_of va) w ≡ line_of s.shape va p
-  line_found l =
-      ap (line_at (set_of va)) hit
-      ∙ sym (pick_yes (line_at (set_of va) (hit_way s.shape va p)) no_line ((lt⇔ (hit_way s.shape va p) ways).1 (omega (arith, hit))))
+  page : is_page (mapped s.shape va) ≡ true
+  page = (lt⇔ (mapped s.shape va) pages).1 (omega arith)
 
-  pub line_missing : ways ≤ w → no_line ≡ line_of s.shape va p
-  line_missing l =
-      sym
-      (pick_not (line_at (set_of va) (hit_way s.shape va p)) no_line
-      (not_so (lt⇔ (hit_way s.shape va p) ways) (λ b. omega (arith, hit))))
+  former_is : former_line s.shape va ≡ line_of s.shape va (mapped s.shape va)
+  former_is = pick_yes (old_line s.shape va) no_line page
 
-module _ (h : Shape) (va : ℕ) (l : Lead) (e : l ≡ toward (mapped h va)) where
-  pub former_found : (p : Ma) → l ≡ To p → (i : ℕ) → i ≡ line_of h va p.0 → i ≡ former_line h va
-  former_found p f i g =
-      let d = led (mapped h va) l e p f in
-      g ∙ ap (line_of h va) d.1 ∙ sym (pick_yes (old_line h va) no_line ((lt⇔ (mapped h va) pages).1 d.0))
+  pub former_found : (w : ℕ) → Some w ≡ if_below ways (find_in x va p) → Some (line_at (set_of va) w) ≡ if_below lines (former_line s.shape va)
+  former_found w f =
+      let d = below_some ways (find_in x va p) w f in
+      let q : hit_way s.shape va (mapped s.shape va) ≡ w = sym (d.0 ∙ hit) in
+      let i : former_line s.shape va ≡ line_at (set_of va) w = former_is ∙ rw (q, lt-ltb w ways d.1) in
+      sym (ap (if_below lines) i ∙ rw (lt-ltb (line_at (set_of va) w) lines (omega arith)))
 
-  pub former_missing : l ≡ Nowhere → no_line ≡ former_line h va
+  pub former_missing : None ≡ if_below ways (find_in x va p) → None ≡ if_below lines (former_line s.shape va)
   former_missing f =
-      sym (pick_not (old_line h va) no_line (not_so (lt⇔ (mapped h va) pages) (λ b. omega (arith, led_nowhere (mapped h va) l e f))))
+      let q = le-ltb (hit_way s.shape va (mapped s.shape va)) ways (omega (arith, below_none ways (find_in x va p) f, hit)) in
+      let i : former_line s.shape va ≡ no_line = former_is ∙ rw q in
+      sym (ap (if_below lines) i)
 
--- ---- a page that is shared
-
-module _ (s : State) (va p : ℕ) (h : p < pages) (b : Bool) (e : b ≡ maps_page_of s.shape (λ v. not (eqb v va)) p) where
-  is_shared_law : b ≡ is_shared s.shape va p
-  is_shared_law = e ∙ rw ((lt⇔ p pages).1 h)
-
-  pub shared_out : b ≡ true → (t u : State) → t ≡ pick (is_page p) (take_out_page s p) s → u ≡ shaped t (lose_mark t.shape p) → u ≡ shared s va p
-  unfolding shared
-  shared_out c t u f g =
-      g ∙ ap (λ (x : State). shaped x (lose_mark x.shape p)) (f ∙ for_page p (take_out_page s p) s h)
-      ∙ sym (pick_yes (shaped (take_out_page s p) (lose_mark (take_out_page s p).shape p)) s (sym is_shared_law ∙ c))
-
-  pub shared_not : b ≡ false → s ≡ shared s va p
-  unfolding shared
-  shared_not c = sym (pick_not (shaped (take_out_page s p) (lose_mark (take_out_page s p).shape p)) s (sym is_shared_law ∙ c))
+-- no line is past the last
+pub no_line_out : (s : State) (i : ℕ) → Sized s → None ≡ if_below lines i → s ≡ take_out s i
+unfolding take_out
+no_line_out s i z f =
+    let l = below_none lines i f in
+    let n : lead (at s.shape.cache.line_page i) ≡ nowhere = ap lead (at_past s.shape.cache.line_page i (omega (arith, z.line_page))) in
+    rw (
+      n,
+      set_out s.shape.cache.line_address i 0 (omega (arith, z.line_address)),
+      set_out s.shape.cache.line_page i 0 (omega (arith, z.line_page)),
+      set_out s.values.memory nowhere (at s.values.line i) (omega (arith, z.memory)),
+      set_out s.values.line i 0 (omega (arith, z.line)),
+    )

@@ -9,25 +9,16 @@ use Rattle.laws.proofs.Tests.{lt⇔, not_so}
 use Rattle.model.specs.Sizes.{pages}
 use Rattle.model.specs.State.{State, is_page}
 use Rattle.numbers.specs.declared.Ma.{Ma}
-use Rattle.numbers.specs.declared.Lead.{Lead}
-use Rattle.numbers.specs.declared.Lead.TheVariants.{To, Nowhere}
+use Rattle.std.specs.Prelude.{Option}
+use Rattle.std.specs.Prelude.{Some, None}
 use Rattle.numbers.specs.Lead.{ma, toward}
 use Rattle.numbers.proofs.Leads.{toward_page, toward_none}
 
-module _ (n : ℕ) (l : Lead) (e : l ≡ toward n) where
-  pub led : (p : Ma) → l ≡ To p → (n < pages) × (p.0 ≡ n)
-  led p f =
-      below? n pages
-      (λ h. let d : p ≡ ma n = cc (e, f, toward_page n h) in (h, ap (λ (q : Ma). q.0) d))
-      (λ h. let z : ◌≡◌ {A = ℕ} 0 1 = cc (e, f, toward_none n h) in absurd (omega arith))
-
-  pub led_nowhere : l ≡ Nowhere → pages ≤ n
+module _ (n : ℕ) (l : Option Ma) (e : l ≡ toward n) where
+  pub led_nowhere : l ≡ None → pages ≤ n
   led_nowhere f =
       below? n pages (λ h. let z : ◌≡◌ {A = ℕ} 0 1 = cc (e, f, toward_page n h) in absurd (omega arith)) (λ h. h)
 
 -- a step that is for pages only
 pub for_page : (p : ℕ) (x y : State) → p < pages → pick (is_page p) x y ≡ x
 for_page p x y h = pick_yes x y ((lt⇔ p pages).1 h)
-
-pub no_page : (p : ℕ) (x y : State) → pages ≤ p → pick (is_page p) x y ≡ y
-no_page p x y h = pick_not x y (not_so (lt⇔ p pages) (λ l. omega arith))

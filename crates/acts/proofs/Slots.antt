@@ -1,32 +1,34 @@
 -- Slots of the TLB: the one that holds an address, and all of them emptied one by one.
 -- Assumes nothing.
 use mathlib.Core.Path.{◌≡◌, refl, ap, ◌∙◌, sym}
-use mathlib.Core.Logic.{◌≢◌}
 use mathlib.Core.List.{List}
 use Prim.Native.Nat.{ℕ, zero, suc, ◌+◌, ◌≤◌, ◌<◌}
 use native.Mathlib.Numerals.{add-one}
 use native.Mathlib.Omega.{arith}
 use lib.Dec.{eqb}
 use lib.ListN.{length, set, replicate, length-set, length-replicate, get_or-replicate}
-use lib.Seq.{ext_get_or}
+use lib.Seq.{ext_get_or, set_out}
 use Rattle.laws.specs.Choice.{pick, at}
-use Rattle.laws.proofs.Cases.{same?, pick_yes, pick_not}
-use Rattle.laws.proofs.Tests.{eq⇔, not_so}
+use Rattle.laws.proofs.Cases.{same?}
 use Rattle.laws.proofs.Lists.{at_same, at_any}
 use Rattle.model.specs.Sizes.{slots, slot_of}
 use Rattle.model.specs.State.{State}
-use Rattle.model.specs.Parts.{shaped, with_tlb, set_slot, emptied}
+use Rattle.model.specs.Parts.{shaped, with_tlb, set_slot, forget, emptied}
 use Rattle.model.specs.Valid.{Sized}
+use Rattle.std.specs.Prelude.{Some, None}
+use Rattle.cache.proofs.Found.{picked_none}
 
 -- ---- the slot of an address
 
-module _ (l : List ℕ) (a i v : ℕ) (e : i ≡ slot_of a) (f : v ≡ at l i) where
-  pub slot_held : v ≡ a → i ≡ pick (eqb (at l (slot_of a)) a) (slot_of a) slots
-  slot_held g = e ∙ sym (pick_yes (slot_of a) slots ((eq⇔ (at l (slot_of a)) a).1 (ap (at l) (sym e) ∙ sym f ∙ g)))
-
-  pub slot_not_held : v ≢ a → slots ≡ pick (eqb (at l (slot_of a)) a) (slot_of a) slots
-  slot_not_held n =
-      sym (pick_not (slot_of a) slots (not_so (eq⇔ (at l (slot_of a)) a) (λ g. n (f ∙ ap (at l) e ∙ g))))
+-- no slot is past the last
+pub no_slot : (s : State) (a : ℕ) → Sized s → None ≡ pick (eqb (at s.shape.tlb.slot_address (slot_of a)) a) (Some (slot_of a)) None → s ≡ shaped s (forget s.shape a)
+no_slot s a z f =
+    let e = picked_none (eqb (at s.shape.tlb.slot_address (slot_of a)) a) (slot_of a) f in
+    rw (
+      e,
+      set_out s.shape.tlb.slot_address slots 0 (omega (arith, z.slot_address)),
+      set_out s.shape.tlb.slot_page slots 0 (omega (arith, z.slot_page)),
+    )
 
 -- ---- all slots, one by one
 

@@ -5,12 +5,13 @@ ghost use Rattle.acts.specs.Mapped.{deleted};
 
 use super::clear_call;
 use super::tables::{drop_line, remap};
-use host::{Host, Lead, Va};
+use host::{Host, Va};
 
+#[tactic(auto, unfolding(crate::specs::Mapped::deleted))]
 pub fn del(h: &mut Host, a: Va)
     ensures { view h.new ≡ deleted (view h.old) a.0 }
 {
     drop_line(h, a);
-    remap(h, a, Lead::Nowhere);
+    remap(h, a, None);
     clear_call(h)
 }

@@ -6,6 +6,7 @@ ghost use Rattle.host.specs.View.{view};
 use super::set_pending;
 use host::{Call, Guest, Host};
 
+#[tactic(auto, unfolding(model::specs::Drop::drop_step))]
 pub fn drop(h: &mut Host, g: Guest)
     ensures { view h.new ≡ drop_step (view h.old) g.0 }
 {

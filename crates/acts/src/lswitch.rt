@@ -8,6 +8,7 @@ use super::clear_call;
 use super::stealth::{load_stealth, save_stealth};
 use host::{Host, Pa};
 
+#[tactic(auto, unfolding(host::specs::View::put))]
 fn set_table(h: &mut Host, a: Pa)
     ensures { view h.new ≡ shaped (view h.old) (set_current (view h.old).shape a.0) }
 {
@@ -15,6 +16,7 @@ fn set_table(h: &mut Host, a: Pa)
     host::set_current(h, g, a)
 }
 
+#[tactic(auto, unfolding(model::specs::Lswitch::lswitch_step))]
 pub fn lswitch(h: &mut Host, a: Pa)
     ensures { view h.new ≡ lswitch_step (view h.old) a.0 }
 {

@@ -1,32 +1,32 @@
 // new: an address is mapped to a page.
-ghost use Rattle.std.specs.Prelude.{◌≡◌, ◌<◌};
+ghost use Rattle.std.specs.Prelude.{◌≡◌};
 ghost use Rattle.laws.specs.Choice.{pick};
-ghost use Rattle.model.specs.Sizes.{pages};
 ghost use Rattle.model.specs.State.{is_page};
 ghost use Rattle.host.specs.View.{view};
 ghost use Rattle.acts.specs.Mapped.{shared, created};
 
 use super::tables::{drop_line, remap};
 use super::{clear_call, lose_mark};
-use host::{Host, Lead, Ma, Va};
+use cache::MachinePage;
+use host::{Host, Ma, Va};
 
 // A page that some table maps elsewhere is not cached.
-fn share(h: &mut Host, a: Va, p: Ma)
-    requires { p.0 < pages }
+#[tactic(auto, unfolding(crate::specs::Mapped::shared))]
+fn share(h: &mut Host, a: Va, p: MachinePage)
     ensures { view h.new ≡ shared (view h.old) a.0 p.0 }
 {
-    if asks::maps_away(h, p, a) {
-        cache::take_out_page(h, p);
-        lose_mark(h, p);
+    if asks::maps_away(h, p.ma, a) {
+        cache::take_out_page(h, p.ma);
+        lose_mark(h, p.ma);
     }
 }
 
-fn create(h: &mut Host, a: Va, p: Ma)
-    requires { p.0 < pages }
+#[tactic(auto, unfolding(crate::specs::Mapped::created))]
+fn create(h: &mut Host, a: Va, p: MachinePage)
     ensures { view h.new ≡ created (view h.old) a.0 p.0 }
 {
     drop_line(h, a);
-    remap(h, a, Lead::To(p));
+    remap(h, a, Some(p.ma));
     share(h, a, p);
     clear_call(h)
 }
@@ -35,7 +35,7 @@ fn create(h: &mut Host, a: Va, p: Ma)
 pub fn new(h: &mut Host, a: Va, p: Ma)
     ensures { view h.new ≡ pick (is_page p.0) (created (view h.old) a.0 p.0) (view h.old) }
 {
-    if (p.0 as usize) < host::PAGES {
-        create(h, a, p)
+    if let Some(page) = MachinePage::of(p) {
+        create(h, a, page)
     }
 }

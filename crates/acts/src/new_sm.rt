@@ -1,7 +1,6 @@
 // new_sm: the stealth address is mapped to a page.
-ghost use Rattle.std.specs.Prelude.{◌≡◌, ◌<◌};
+ghost use Rattle.std.specs.Prelude.{◌≡◌};
 ghost use Rattle.laws.specs.Choice.{pick};
-ghost use Rattle.model.specs.Sizes.{pages};
 ghost use Rattle.model.specs.State.{is_page};
 ghost use Rattle.model.specs.NewSm.{new_sm_step};
 ghost use Rattle.host.specs.View.{view};
@@ -9,16 +8,16 @@ ghost use Rattle.host.specs.View.{view};
 use super::stealth::{LINE, STEALTH};
 use super::tables::in_force;
 use super::{clear_call, map, translate};
-use host::{Host, Lead, Ma, Va};
+use cache::MachinePage;
+use host::{Host, Ma, Va};
 
-fn create(h: &mut Host, p: Ma)
-    requires { p.0 < pages }
+fn create(h: &mut Host, p: MachinePage)
     ensures { view h.new ≡ new_sm_step (view h.old) p.0 }
 {
-    cache::fill(h, LINE, Va(STEALTH), p);
+    cache::fill(h, LINE, Va(STEALTH), p.ma);
     let t = in_force(h);
-    map(h, t, Va(STEALTH), Lead::To(p));
-    translate(h, Va(STEALTH), p);
+    map(h, t, Va(STEALTH), Some(p.ma));
+    translate(h, Va(STEALTH), p.ma);
     clear_call(h)
 }
 
@@ -26,7 +25,7 @@ fn create(h: &mut Host, p: Ma)
 pub fn new_sm(h: &mut Host, p: Ma)
     ensures { view h.new ≡ pick (is_page p.0) (new_sm_step (view h.old) p.0) (view h.old) }
 {
-    if (p.0 as usize) < host::PAGES {
-        create(h, p)
+    if let Some(page) = MachinePage::of(p) {
+        create(h, page)
     }
 }

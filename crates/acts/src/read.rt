@@ -3,16 +3,16 @@ ghost use Rattle.host.specs.View.{view};
 ghost use Rattle.acts.specs.Reads.{Reads};
 
 use super::translate;
-use cache::Purpose;
+use cache::MachinePage;
 use host::{Host, Ma, Va};
 
 // The value there. 0 and nothing where p is no page.
 pub fn read(h: &mut Host, a: Va, p: Ma) -> u32
     ensures { Reads (view h.old) a.0 p.0 result (view h.new) }
 {
-    if (p.0 as usize) < host::PAGES {
-        let v = cache::access(h, a, p, Purpose::Read);
-        translate(h, a, p);
+    if let Some(page) = MachinePage::of(p) {
+        let v = cache::access(h, a, page.ma, None);
+        translate(h, a, page.ma);
         v
     } else {
         0

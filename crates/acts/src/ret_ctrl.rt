@@ -5,8 +5,9 @@ ghost use Rattle.host.specs.View.{view};
 
 use host::Host;
 
+#[tactic(auto, unfolding(model::specs::RetCtrl::ret_ctrl_step, host::specs::View::put_mode))]
 pub fn ret_ctrl(h: &mut Host)
     ensures { view h.new ≡ ret_ctrl_step (view h.old) }
 {
-    host::set_mode(h, records::WAITING)
+    host::set_mode(h, host::WAITING)
 }

@@ -7,7 +7,7 @@ ghost use Rattle.model.specs.Parts.{enter, save_stealth, load_stealth};
 ghost use Rattle.host.specs.View.{view};
 
 use super::empty_tlb;
-use host::{Host, Lead, Va};
+use host::{Host, Va};
 
 pub const STEALTH: u8 = host::STEALTH;
 
@@ -21,17 +21,16 @@ pub(crate) fn save_stealth(h: &mut Host)
 }
 
 // The page that the table in force has at the stealth address enters, if there is one.
+#[tactic(auto, using(crate::proofs::Accesses::stealth_stays, host::proofs::Inverse::view_sized))]
 fn enter_stealth(h: &mut Host)
     ensures { view h.new ≡ enter (view h.old) (pick (is_page (mapped (view h.old).shape stealth)) stealth_line no_line) stealth (mapped (view h.old).shape stealth) }
 {
-    host::whole(h);
-    let l = asks::mapped(h, Va(STEALTH));
-    match l {
-        Lead::To(p) => cache::fill(h, LINE, Va(STEALTH), p),
-        Lead::Nowhere => {}
+    if let Some(p) = asks::mapped(h, Va(STEALTH)) {
+        cache::fill(h, LINE, Va(STEALTH), p);
     }
 }
 
+#[tactic(auto, unfolding(model::specs::Parts::load_stealth))]
 pub(crate) fn load_stealth(h: &mut Host)
     ensures { view h.new ≡ load_stealth (view h.old) }
 {

@@ -1,16 +1,18 @@
 // The table in force: what it leads to changes, and a line of what it led to is taken out.
-ghost use Rattle.std.specs.Prelude.{◌≡◌, ◌<◌};
-ghost use Rattle.model.specs.Sizes.{pages};
-ghost use Rattle.model.specs.State.{table, line_of};
+ghost use Rattle.std.specs.Prelude.{◌≡◌};
+ghost use Rattle.model.specs.Sizes.{lines};
+ghost use Rattle.model.specs.State.{table};
 ghost use Rattle.model.specs.Parts.{take_out};
 ghost use Rattle.host.specs.View.{view};
 ghost use Rattle.numbers.specs.Lead.{held_of};
+ghost use Rattle.cache.specs.Sets.{if_below};
 ghost use Rattle.acts.specs.Mapped.{former_line, remapped};
 
 use super::{forget, map};
-use host::{Host, Lead, Ma, Va};
+use host::{Host, Ma, Va};
 
 // Past the last page if there is none: what is stored there is lost.
+#[tactic(auto, using(numbers::proofs::Leads::place_toward, asks::proofs::Tables::table_below))]
 pub(crate) fn in_force(h: &Host) -> Ma
     ensures { result.0 ≡ table (view h.now).shape }
 {
@@ -18,7 +20,8 @@ pub(crate) fn in_force(h: &Host) -> Ma
 }
 
 // The table in force leads from address a to what l says.
-pub(crate) fn remap(h: &mut Host, a: Va, l: Lead)
+#[tactic(auto, unfolding(crate::specs::Mapped::remapped))]
+pub(crate) fn remap(h: &mut Host, a: Va, l: Option<Ma>)
     ensures { view h.new ≡ remapped (view h.old) a.0 (held_of l) }
 {
     let t = in_force(h);
@@ -28,34 +31,23 @@ pub(crate) fn remap(h: &mut Host, a: Va, l: Lead)
 
 // ---- the line of an address
 
-fn line_of(h: &Host, a: Va, p: Ma) -> usize
-    requires { p.0 < pages }
-    ensures { result ≡ line_of (view h.now).shape a.0 p.0 }
+// The line of address a and the page that the table in force leads to from there.
+#[tactic(auto, using(crate::proofs::Mapping::former_found, crate::proofs::Mapping::former_missing, cache::proofs::Found::at_page))]
+fn former_line(h: &Host, a: Va) -> Option<usize>
+    ensures { result ≡ if_below lines (former_line (view h.now).shape a.0) }
 {
+    let p = asks::mapped(h, a)?;
     let k = a.0 as usize % host::SETS;
-    let s = cache::load(h, k);
-    let w = cache::find(s, a, p);
-    if w < cache::WAYS {
-        cache::WAYS * k + w
-    } else {
-        host::LINES
-    }
+    let w = cache::load(h, k).find(a, p)?;
+    Some(cache::WAYS * k + w)
 }
 
-fn former_line(h: &Host, a: Va) -> usize
-    ensures { result ≡ former_line (view h.now).shape a.0 }
-{
-    let l = asks::mapped(h, a);
-    match l {
-        Lead::To(p) => line_of(h, a, p),
-        Lead::Nowhere => host::LINES,
-    }
-}
-
-// The line of address a and the page that the table in force leads to from there is taken out.
+// It is taken out, if there is one.
+#[tactic(auto, using(crate::proofs::Mapping::no_line_out, host::proofs::Inverse::view_sized))]
 pub(crate) fn drop_line(h: &mut Host, a: Va)
     ensures { view h.new ≡ take_out (view h.old) (former_line (view h.old).shape a.0) }
 {
-    let i = former_line(h, a);
-    cache::take_out(h, i)
+    if let Some(i) = former_line(h, a) {
+        cache::take_out(h, i);
+    }
 }

@@ -6,15 +6,15 @@ ghost use Rattle.model.specs.Write.{write_step};
 ghost use Rattle.host.specs.View.{view};
 
 use super::translate;
-use cache::Purpose;
+use cache::MachinePage;
 use host::{Host, Ma, Va};
 
 // Nothing where p is no page.
 pub fn write(h: &mut Host, a: Va, p: Ma, v: u32)
     ensures { view h.new ≡ pick (is_page p.0) (write_step (view h.old) a.0 p.0 v) (view h.old) }
 {
-    if (p.0 as usize) < host::PAGES {
-        cache::access(h, a, p, Purpose::Write(v));
-        translate(h, a, p);
+    if let Some(page) = MachinePage::of(p) {
+        cache::access(h, a, page.ma, Some(v));
+        translate(h, a, page.ma);
     }
 }

@@ -1,5 +1,6 @@
+pub mod Folds
 pub mod Maps
 pub mod Tables
 pub mod Row
-pub mod Own
+pub mod Pages
 pub mod Actions

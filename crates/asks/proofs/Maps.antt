@@ -6,10 +6,10 @@ use Prim.Native.Nat.{ℕ, suc, ◌+◌, ◌*◌, ◌<◌}
 use native.Mathlib.Omega.{arith}
 use lib.Dec.{eqb}
 use lib.ListN.{length}
-use borrow.Author.Tests.{eq-eqb, ne_eqb}
+use borrow.Author.Tests.{ne_eqb}
 use Rattle.laws.specs.Choice.{at, ◌⇔◌}
 use Rattle.laws.specs.Search.{some_below}
-use Rattle.laws.proofs.Cases.{split, below?}
+use Rattle.laws.proofs.Cases.{below?}
 use Rattle.laws.proofs.Lists.{at_past}
 use Rattle.laws.proofs.Tests.{eq⇔, true⇔, and⇔, not⇔, as⇔, not_so, agree}
 use Rattle.laws.proofs.Search.{some⇔}
@@ -19,28 +19,6 @@ use Rattle.model.specs.Names.{kind_table}
 use Rattle.model.specs.State.{Shape, is_page, is_mapped, maps_page}
 use Rattle.model.specs.Checks.{has_entries}
 use Rattle.asks.specs.Maps.{maps_page_of, entry_is, entry_maps, row_maps, table_maps, entry_there, only_at, but_at}
-
--- ---- one entry
-
--- v is a, or another address
-module _ (h : Shape) (p t : ℕ) {v a : ℕ} where
-  pub away_same : v ≡ a → false ≡ entry_maps h (but_at a) p t v
-  unfolding entry_maps
-  away_same e = rw (eq-eqb v a e) (split (entry_is h p t v) (λ q. rw q) (λ q. rw q))
-
-  pub away_other : {x : Bool} → (v ≡ a → ⊥) → x ≡ entry_is h p t v → x ≡ entry_maps h (but_at a) p t v
-  unfolding entry_maps
-  away_other {x} n e = rw (ne_eqb v a n, ← e) (split x (λ q. rw q) (λ q. rw q))
-
--- page t is a table, or it is not
-module _ (h : Shape) (f : ℕ → Bool) (p t : ℕ) {k : ℕ} (e : k ≡ at h.pages.kind t) where
-  pub table_row : {x : Bool} → k ≡ kind_table → x ≡ row_maps h f p t → x ≡ table_maps h f p t
-  unfolding table_maps
-  table_row q r = rw (eq-eqb (at h.pages.kind t) kind_table (sym e ∙ q)) r
-
-  pub table_none : (k ≡ kind_table → ⊥) → false ≡ table_maps h f p t
-  unfolding table_maps
-  table_none n = rw (ne_eqb (at h.pages.kind t) kind_table (λ q. n (e ∙ q)))
 
 -- ---- all tables
 

@@ -1,20 +1,18 @@
 -- The table in force and what it leads to, as answers.
 -- Assumes nothing.
-use mathlib.Core.Path.{◌≡◌, sym, ap, ◌∙◌}
+use mathlib.Core.Path.{◌≡◌, ◌∙◌}
 use mathlib.Core.Bool.{◌&&◌}
 use mathlib.Core.List.{List}
 use Prim.Native.Nat.{ℕ, ◌+◌, ◌*◌, ◌≤◌, ◌<◌}
 use native.Mathlib.Omega.{arith}
 use lib.Dec.{eqb, ltb}
-use borrow.Author.Tests.{lt-ltb, le-ltb, eq-eqb, ne_eqb}
+use borrow.Author.Tests.{lt-ltb, le-ltb}
 use Rattle.laws.specs.Choice.{pick, at}
 use Rattle.laws.proofs.Cases.{split, below?, pick_both}
 use Rattle.model.specs.Sizes.{physicals, pages}
 use Rattle.model.specs.Names.{kind_table}
 use Rattle.model.specs.State.{Shape, lead, nowhere, active, table_at, table}
-use Rattle.numbers.specs.declared.Ma.{Ma}
-use Rattle.numbers.specs.declared.Lead.{Lead}
-use Rattle.numbers.specs.declared.Lead.TheVariants.{To, Nowhere}
+use Rattle.std.specs.Prelude.{None}
 use Rattle.numbers.specs.Lead.{toward, lead_of}
 use Rattle.numbers.proofs.Leads.{toward_page, toward_none, lead_le}
 use Rattle.asks.specs.Leads.{only_table}
@@ -26,18 +24,11 @@ table_toward kind n =
     (λ b. rw (toward_page n b) (split (eqb (at kind n) kind_table) (λ e. rw (e, toward_page n b)) (λ e. rw e)))
     (λ b. rw (toward_none n b) (split (eqb (at kind n) kind_table) (λ e. rw (e, toward_none n b)) (λ e. rw e)))
 
-module _ (kind : List ℕ) (l : Lead) (p : Ma) (e : l ≡ To p) {k : ℕ} (f : k ≡ at kind p.0) where
-  pub only_yes : k ≡ kind_table → To p ≡ only_table kind l
-  only_yes q = sym (ap (only_table kind) e ∙ rw (eq-eqb (at kind p.0) kind_table (sym f ∙ q)))
-
-  pub only_not : (k ≡ kind_table → ⊥) → Nowhere ≡ only_table kind l
-  only_not n = sym (ap (only_table kind) e ∙ rw (ne_eqb (at kind p.0) kind_table (λ q. n (f ∙ q))))
-
 module _ (kind physical : List ℕ) (g pa : ℕ) where
   pub table_in_law : pa < physicals → only_table kind (lead_of (at physical (physicals * g + pa))) ≡ toward (table_at kind physical g pa)
   table_in_law h = table_toward kind (lead (at physical (physicals * g + pa))) ∙ rw (lt-ltb pa physicals h)
 
-  pub table_out : physicals ≤ pa → Nowhere ≡ toward (table_at kind physical g pa)
+  pub table_out : physicals ≤ pa → None ≡ toward (table_at kind physical g pa)
   table_out h = rw (le-ltb pa physicals h)
 
   pub table_le : table_at kind physical g pa ≤ nowhere

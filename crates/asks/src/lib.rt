@@ -1,7 +1,7 @@
 // What checks ask of a state, answered on its bytes, and the refusal of an action.
 #![tactic(auto)]
 
-ghost use Rattle.std.specs.Prelude.{◌≡◌, true, not, ◌||◌, ◌<◌, eqb};
+ghost use Rattle.std.specs.Prelude.{◌≡◌, true, not, ◌<◌, eqb};
 ghost use Rattle.model.specs.Sizes.{addresses, reserved};
 ghost use Rattle.model.specs.State.{table, mapped, here};
 ghost use Rattle.model.specs.Checks.{has_entries};
@@ -10,7 +10,7 @@ ghost use Rattle.numbers.specs.Lead.{toward};
 ghost use Rattle.asks.specs.Leads.{only_table};
 ghost use Rattle.asks.specs.Maps.{maps_page_of, entry_is, entry_maps, row_maps, table_maps, entry_there, only_at, but_at};
 
-use host::{FIRST_RESERVED, Guest, Host, KIND_TABLE, Lead, Ma, Pa, PinKind, STEALTH, Va};
+use host::{FIRST_RESERVED, Host, KIND_TABLE, Ma, Pa, STEALTH, Va};
 
 const PAGES: u8 = host::PAGES as u8;
 
@@ -19,12 +19,6 @@ const ADDRESSES: u8 = host::ADDRESSES as u8;
 const PHYSICALS: u8 = host::PHYSICALS as u8;
 
 const SETS: u8 = host::SETS as u8;
-
-fn either(x: bool, y: bool) -> bool
-    ensures { result ≡ (x || y) }
-{
-    x || y
-}
 
 // ---- which tables map a page
 
@@ -39,31 +33,20 @@ fn entry_is(h: &Host, p: Ma, t: Ma, v: Va) -> bool
 fn entry_away(h: &Host, a: Va, p: Ma, t: Ma, v: Va) -> bool
     ensures { result ≡ entry_maps (view h.now).shape (but_at a.0) p.0 t.0 v.0 }
 {
-    let e = entry_is(h, p, t, v);
-    if v.0 == a.0 { false } else { e }
+    entry_is(h, p, t, v) & (v != a)
 }
 
 // Without an exit in between: one pass over the row.
 fn row_away(h: &Host, a: Va, p: Ma, t: Ma) -> bool
     ensures { result ≡ row_maps (view h.now).shape (but_at a.0) p.0 t.0 }
 {
-    let mut found = false;
-    let mut v: u8 = 0;
-    while v < ADDRESSES {
-        found = either(found, entry_away(h, a, p, t, Va(v)));
-        v += 1;
-    }
-    found
+    (0..ADDRESSES).fold(false, |found, v| found | entry_away(h, a, p, t, Va(v)))
 }
 
 fn table_away(h: &Host, a: Va, p: Ma, t: Ma) -> bool
     ensures { result ≡ table_maps (view h.now).shape (but_at a.0) p.0 t.0 }
 {
-    if host::kind(h, t) == KIND_TABLE {
-        row_away(h, a, p, t)
-    } else {
-        false
-    }
+    host::kind(h, t) == KIND_TABLE && row_away(h, a, p, t)
 }
 
 // Some table maps another address than a to page p.
@@ -71,14 +54,7 @@ pub fn maps_away(h: &Host, p: Ma, a: Va) -> bool
     ensures { result ≡ maps_page_of (view h.now).shape (λ v. not (eqb v a.0)) p.0 }
 {
     host::whole(h);
-    let mut t: u8 = 0;
-    while t < PAGES {
-        if table_away(h, a, p, Ma(t)) {
-            return true;
-        }
-        t += 1;
-    }
-    false
+    (0..PAGES).any(|t| table_away(h, a, p, Ma(t)))
 }
 
 // Of any address: none of them is the number past the last.
@@ -93,11 +69,7 @@ fn table_at(h: &Host, a: Va, p: Ma, t: Ma) -> bool
     requires { a.0 < addresses }
     ensures { result ≡ table_maps (view h.now).shape (only_at a.0) p.0 t.0 }
 {
-    if host::kind(h, t) == KIND_TABLE {
-        entry_is(h, p, t, a)
-    } else {
-        false
-    }
+    host::kind(h, t) == KIND_TABLE && entry_is(h, p, t, a)
 }
 
 // Some table maps address a to page p.
@@ -105,17 +77,7 @@ pub fn maps_at(h: &Host, p: Ma, a: Va) -> bool
     ensures { result ≡ maps_page_of (view h.now).shape (λ v. eqb v a.0) p.0 }
 {
     host::whole(h);
-    if ADDRESSES <= a.0 {
-        return false;
-    }
-    let mut t: u8 = 0;
-    while t < PAGES {
-        if table_at(h, a, p, Ma(t)) {
-            return true;
-        }
-        t += 1;
-    }
-    false
+    a.0 < ADDRESSES && (0..PAGES).any(|t| table_at(h, a, p, Ma(t)))
 }
 
 // ---- the entries of one page
@@ -126,18 +88,12 @@ fn entry_there(h: &Host, m: Ma, v: Va) -> bool
     !host::entry_empty(h, m, v)
 }
 
-// Page m, read as a table, has entries.
+// Page m, read as a table, has entries: without an exit in between.
 pub fn has_entries(h: &Host, m: Ma) -> bool
     ensures { result ≡ has_entries (view h.now).shape.pages.entry m.0 }
 {
     host::whole(h);
-    let mut found = false;
-    let mut v: u8 = 0;
-    while v < ADDRESSES {
-        found = either(found, entry_there(h, m, Va(v)));
-        v += 1;
-    }
-    found
+    (0..ADDRESSES).fold(false, |found, v| found | entry_there(h, m, Va(v)))
 }
 
 // ---- addresses
@@ -146,36 +102,20 @@ pub fn has_entries(h: &Host, m: Ma) -> bool
 pub fn reserved(a: Va) -> bool
     ensures { result ≡ reserved a.0 }
 {
-    let n = a.0;
-    if FIRST_RESERVED <= n {
-        return true;
-    }
-    if n == STEALTH {
-        return false;
-    }
-    n % SETS == STEALTH % SETS
+    FIRST_RESERVED <= a.0 || a.0 % SETS == STEALTH % SETS && a.0 != STEALTH
 }
 
 // ---- the table in force
 
 // A page that is a table.
-fn only_table(h: &Host, l: Lead) -> Lead
+fn only_table(h: &Host, l: Option<Ma>) -> Option<Ma>
     ensures { result ≡ only_table (view h.now).shape.pages.kind l }
 {
-    match l {
-        Lead::To(p) => {
-            if host::kind(h, p) == KIND_TABLE {
-                Lead::To(p)
-            } else {
-                Lead::Nowhere
-            }
-        }
-        Lead::Nowhere => Lead::Nowhere,
-    }
+    l.filter(|p| host::kind(h, *p) == KIND_TABLE)
 }
 
 // The active guest's current table.
-pub fn table(h: &Host) -> Lead
+pub fn table(h: &Host) -> Option<Ma>
     ensures { result ≡ toward (table (view h.now).shape) }
 {
     let g = host::active(h);
@@ -183,19 +123,19 @@ pub fn table(h: &Host) -> Lead
     if a.0 < PHYSICALS {
         only_table(h, host::physical(h, g, a))
     } else {
-        Lead::Nowhere
+        None
     }
 }
 
 // To what the table in force leads from address a.
-pub fn mapped(h: &Host, a: Va) -> Lead
+pub fn mapped(h: &Host, a: Va) -> Option<Ma>
     ensures { result ≡ toward (mapped (view h.now).shape a.0) }
 {
     host::entry(h, host::place(table(h)), a)
 }
 
 // The page at the active guest's physical address a.
-pub fn here(h: &Host, a: Pa) -> Lead
+pub fn here(h: &Host, a: Pa) -> Option<Ma>
     ensures { result ≡ toward (here (view h.now).shape a.0) }
 {
     host::physical(h, host::active(h), a)
@@ -203,10 +143,6 @@ pub fn here(h: &Host, a: Pa) -> Lead
 
 // ---- the refusal of an action
 
-// An action's kind and what it names: an address, a physical address, a pin's kind, a guest. Where it names none of them, a number that no row asks for.
-#[derive(Clone, Copy)]
-struct Named(u8, Va, Pa, PinKind, Guest);
-
 mod checks;
 
-pub use checks::refusal;
+pub use checks::check;

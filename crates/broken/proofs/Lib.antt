@@ -1,3 +1,4 @@
+pub mod Chains
 pub mod Parts
 pub mod PlaceTests
 pub mod Sequence

@@ -1,4 +1,4 @@
--- The parts of this crate: how many places each has in a state of bytes, and that the tests of places are the model's.
+-- How many places each part has in a state of bytes, and that rule 10's test of a number by its field is the model's.
 -- Assumes nothing.
 use mathlib.Core.Path.{◌≡◌, refl, sym, ap}
 use mathlib.Core.Bool.{true}
@@ -16,9 +16,7 @@ use Rattle.model.specs.Valid.{Sized}
 use Rattle.model.specs.Broken.{places_in, passes_at}
 use Rattle.host.proofs.Inverse.{Bounded}
 use Rattle.ranges.specs.Ranges.{number_in_range}
-use Rattle.broken.specs.declared.Part.{Part}
-use Rattle.broken.specs.declared.Part.TheVariants.{Calls, Pages, Addresses, Reached, Entries, Tables, Unshared, Lines, Slots, StealthWays, StealthHistory, Numbers, Arguments, EmptyLines, EmptySlots, Through}
-use Rattle.broken.specs.Findings.{column_sizes, size_for, numbers_of, part_for}
+use Rattle.broken.specs.Findings.{Part, Calls, Pages, Addresses, Reached, Entries, Tables, Unshared, Lines, Slots, StealthWays, StealthHistory, Numbers, Arguments, EmptyLines, EmptySlots, Through, column_sizes, size_for, numbers_of, part_for}
 
 -- ---- how many places
 

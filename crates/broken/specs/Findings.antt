@@ -1,7 +1,7 @@
--- What this crate's findings are, and which part of the model's rules each of its parts is.
+-- What this crate's findings are, and the parts of the model's rules by their names.
 -- Assumes nothing.
-use Rattle.std.specs.Prelude.{List, [], ◌∷◌, ℕ, ◌+◌, ◌*◌, ltb, eqb, get_or}
-use Rattle.laws.specs.Choice.{pick, at}
+use Rattle.std.specs.Prelude.{Option, Some, None, List, [], ◌∷◌, ℕ, ◌*◌, get_or}
+use Rattle.laws.specs.Choice.{at}
 use Rattle.model.specs.Sizes.{guests, physicals, pages, addresses, lines, sets, ways, slots}
 use Rattle.model.specs.State.{State}
 use Rattle.model.specs.RuleTests.{column, columns, rule10_at}
@@ -9,8 +9,6 @@ use Rattle.model.specs.Broken.{RulePart, along, part1, part2, part3_addresses, p
 use Rattle.model.specs.Broken as model
 use Rattle.broken.specs.declared.Finding.{Finding}
 use Rattle.broken.specs.declared.Finding.TheVariants.{Holds, Broken, NoRule}
-use Rattle.broken.specs.declared.Part.{Part}
-use Rattle.broken.specs.declared.Part.TheVariants.{Calls, Pages, Addresses, Reached, Entries, Tables, Unshared, Lines, Slots, StealthWays, StealthHistory, Numbers, Arguments, EmptyLines, EmptySlots, Through}
 
 -- the finding as the model has it
 abbrev pub finding_from : Finding → model.Finding
@@ -24,7 +22,30 @@ finding_to model.holds = Holds
 finding_to (model.broken k i) = Broken k i
 finding_to model.no_rule = NoRule
 
--- ---- the parts
+-- of a rule that there is: its first broken place, by part and place, or none
+abbrev pub finding_of : Option (ℕ × ℕ) → model.Finding
+finding_of None = model.holds
+finding_of (Some x) = model.broken x.0 x.1
+
+-- ---- the parts of the rules, in their order; the numbers are those of a field
+
+pub data Part : Type 0 where
+  Calls : Part
+  Pages : Part
+  Addresses : Part
+  Reached : Part
+  Entries : Part
+  Tables : Part
+  Unshared : Part
+  Lines : Part
+  Slots : Part
+  StealthWays : Part
+  StealthHistory : Part
+  Numbers : ℕ → Part
+  Arguments : Part
+  EmptyLines : Part
+  EmptySlots : Part
+  Through : Part
 
 -- how many numbers each field has
 abbrev pub column_sizes : List ℕ
@@ -80,9 +101,3 @@ part_for Through s = part11 s
 
 abbrev pub field_parts : ℕ
 field_parts = 20
-
-abbrev pub tenth_parts : ℕ
-tenth_parts = field_parts + 3
-
-unfoldable pub tenth_of : ℕ → Part
-tenth_of k = pick (ltb k field_parts) (Numbers k) (pick (eqb k field_parts) Arguments (pick (eqb k (field_parts + 1)) EmptyLines EmptySlots))

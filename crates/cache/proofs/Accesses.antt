@@ -26,9 +26,9 @@ use Rattle.host.specs.View.{put, put_memory, put_line, history_field}
 use Rattle.host.proofs.Inverse.{Bounded}
 use Rattle.cache.specs.declared.Line.{Line}
 use Rattle.cache.specs.declared.Set.{Set}
-use Rattle.cache.specs.declared.Purpose.{Purpose}
-use Rattle.cache.specs.declared.Purpose.TheVariants.{Read, Write}
-use Rattle.cache.specs.Sets.{line_with, line_from, set_from, empty_line, line_to, way_in, find_in, place_in, replaced_in, used_in, entered_in}
+use Rattle.std.specs.Prelude.{Option, Some, None}
+use Rattle.std.specs.Option.{unwrap_or}
+use Rattle.cache.specs.Sets.{line_with, line_from, set_from, line_to, way_in, find_in, place_in, replaced_in, used_in, entered_in}
 use Rattle.cache.specs.Lines.{put_whole, put_back, accessed, missed, found, after, stored_in, line_for, AccessesLine}
 use Rattle.cache.proofs.Sets.{way_is, find_is_hit, place_is_way}
 use Rattle.cache.proofs.Whole.{history_kept, put_back_history, put_back_replaced}
@@ -38,14 +38,13 @@ pub read_is_access : (s : State) (va p : ℕ) → read_step s va p ≡ shaped (a
 unfolding read_step accessed
 read_is_access s va p = refl
 
+-- a number that is marked is a page
+pub marked_page : (s : State) (p : ℕ) → Sized s → 1 ≡ at s.shape.pages.cacheable p → p < pages
+marked_page s p z e = below? p pages (λ h. h) (λ h. let a = at_past s.shape.pages.cacheable p (omega (arith, z.cacheable)) in absurd (omega arith))
+
 -- a cacheable number is a page
 pub cacheable_page : (s : State) (p : ℕ) → Sized s → is_cacheable s.shape p ≡ true → p < pages
-cacheable_page s p z e =
-    below? p pages (λ h. h)
-    (λ h.
-    let a = at_past s.shape.pages.cacheable p (omega (arith, z.cacheable)) in
-    let b = eqb-true (at s.shape.pages.cacheable p) 1 e in
-    absurd (omega arith))
+cacheable_page s p z e = marked_page s p z (sym (eqb-true (at s.shape.pages.cacheable p) 1 e))
 
 -- the way for a line that enters is a byte
 pub way_small : (s : State) (k : ℕ) → Bounded s → way_for s.shape k < byte_bound
@@ -166,6 +165,10 @@ module _ (s : State) (va p : ℕ) where
 
 -- ---- an access for a purpose
 
+pub kept : (q : Option ℕ) (v : ℕ) → unwrap_or q v ≡ after q v
+kept None v = refl
+kept (Some n) v = refl
+
 module _ (s : State) (va p : ℕ) (z : Sized s) where
   pub accessed_memory : length (accessed s va p).values.memory ≡ pages
   unfolding accessed take_out enter
@@ -175,15 +178,15 @@ module _ (s : State) (va p : ℕ) (z : Sized s) where
   unfolding accessed take_out enter
   accessed_line = length-set (set s.values.line _ 0) _ _ ∙ length-set s.values.line _ 0 ∙ z.line
 
-  pub accesses : (q : Purpose) (v : ℕ) (t u : State) → accessed s va p ≡ t → v ≡ found t va p → u ≡ stored_in t va p (after q v) → AccessesLine s va p q v u
+  pub accesses : (q : Option ℕ) (v : ℕ) (t u : State) → accessed s va p ≡ t → v ≡ found t va p → u ≡ stored_in t va p (after q v) → AccessesLine s va p q v u
   unfolding line_for
-  accesses Read v t u a e f =
+  accesses None v t u a e f =
       let b = e ∙ ap (λ (x : State). found x va p) (sym a) in
       record {
         value = b;
         state = f ∙ (λ j. stored_in (sym a j) va p (b j)) ∙ store_found (accessed s va p) va p accessed_memory accessed_line;
       }
-  accesses (Write n) v t u a e f =
+  accesses (Some n) v t u a e f =
       record { value = e ∙ ap (λ (x : State). found x va p) (sym a); state = f ∙ ap (λ (x : State). stored_in x va p n) (sym a) }
 
 -- ---- the code's steps, with what is in between: x is the set of va
@@ -210,10 +213,10 @@ module _ (s : State) (va p : ℕ) (z : Sized s) (c : is_cacheable s.shape p ≡ 
   is_line : (w : ℕ) → w < ways → way_in x w ≡ line_from s (line_at (set_of va) w)
   is_line w h = ap (λ (t : Set). way_in t w) ex ∙ way_is s (set_of va) w h
 
-  is_read : (w : ℕ) → w < ways → (o : Line) → o ≡ pick (ltb w ways) (way_in x w) empty_line → o ≡ line_from s (line_at (set_of va) w)
-  is_read w h o e = e ∙ pick_yes (way_in x w) empty_line (lt-ltb w ways h) ∙ is_line w h
+  is_read : (w : ℕ) → w < ways → (o : Line) → o ≡ way_in x w → o ≡ line_from s (line_at (set_of va) w)
+  is_read w h o e = e ∙ is_line w h
 
-  pub access_hits : (w : ℕ) → w ≡ find_in x va p → w < ways → (q : Purpose) (o : Line) (n : ℕ) (y t : Set) (u : State) → o ≡ pick (ltb w ways) (way_in x w) empty_line
+  pub access_hits : (w : ℕ) → w ≡ find_in x va p → w < ways → (q : Option ℕ) (o : Line) (n : ℕ) (y t : Set) (u : State) → o ≡ way_in x w
       → n ≡ after q o.value
       → y ≡ replaced_in x w (line_with o.address.0 o.page.0 n) → t ≡ used_in y w → u ≡ put_back s (set_of va) t
       → AccessesLine s va p q o.value u
@@ -309,8 +312,8 @@ module _ (s : State) (va p : ℕ) (z : Sized s) (c : is_cacheable s.shape p ≡ 
           values = record { memory = M; line = sym l j };
         }
 
-    pub access_misses : w < ways → (q : Purpose) (v n : ℕ) (o : Line) (r : State) (l : Line) (y t : Set) (u : State)
-        → o ≡ pick (ltb w ways) (way_in x w) empty_line
+    pub access_misses : w < ways → (q : Option ℕ) (v n : ℕ) (o : Line) (r : State) (l : Line) (y t : Set) (u : State)
+        → o ≡ way_in x w
         → r ≡ put_memory s (lead o.page.0) o.value
         → v ≡ at r.values.memory p
         → n ≡ after q v
@@ -334,7 +337,7 @@ module _ (s : State) (va p : ℕ) (z : Sized s) (c : is_cacheable s.shape p ≡ 
         (eu ∙ (λ j. put_back (er' j) k (et' j)) ∙ put_back_replaced d k w (entered (at s.shape.cache.history k) w) to h ∙ miss_put (after q v)
         ∙ stored_line b va p c (after q v) w (entered_there h) h missed_memory)
 
-    pub access_past : ways ≤ w → (q : Purpose) (u : State) → u ≡ missed s (set_of va) w va p → AccessesLine s va p q 0 u
+    pub access_past : ways ≤ w → (q : Option ℕ) (u : State) → u ≡ missed s (set_of va) w va p → AccessesLine s va p q 0 u
     unfolding missed take_out enter
     access_past h q u eu =
         let b = missed s (set_of va) w va p in

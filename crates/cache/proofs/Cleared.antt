@@ -14,7 +14,7 @@ use Rattle.laws.specs.Search.{list_of}
 use Rattle.laws.proofs.Cases.{split, same?, below?, pick_yes, pick_not}
 use Rattle.laws.proofs.Lists.{at_same, at_other, length_list_of, get_or_list_of}
 use Rattle.model.specs.Sizes.{pages, lines}
-use Rattle.model.specs.State.{State, is_page, line_of_page, present}
+use Rattle.model.specs.State.{State, is_page, present}
 use Rattle.model.specs.Parts.{with_cache, cleared, take_out_page}
 use Rattle.model.specs.Valid.{Sized}
 use Rattle.host.specs.View.{put_memory}
@@ -136,12 +136,3 @@ taken_page s p v h e t u et eu =
       values = record { memory = set s.values.memory p (e i); line = w i };
     })
     ∙ sym (pick_yes (take_out_page s p) s (lt-ltb p pages h))
-
-module _ (s : State) (p i : ℕ) (e : i ≡ line_of_page s.shape p) where
-  pub present_line : i < lines → (v : ℕ) → v ≡ at s.values.line i → v ≡ present s p
-  unfolding present
-  present_line l v ev = ev ∙ rw (← e, lt-ltb i lines l)
-
-  pub present_memory : lines ≤ i → (v : ℕ) → v ≡ at s.values.memory p → v ≡ present s p
-  unfolding present
-  present_memory l v ev = ev ∙ rw (← e, le-ltb i lines l)

@@ -4,4 +4,4 @@ pub mod Accesses
 pub mod Cleared
 pub mod Answers
 pub mod Through
-pub mod OneWay
+pub mod Found

@@ -7,7 +7,7 @@ use Prim.Native.Nat.{ℕ, zero, suc, ◌+◌, ◌/◌, ◌%◌, ◌≤◌, ◌<�
 use native.Mathlib.Omega.{arith}
 use native.Mathlib.Numerals.{add-one}
 use lib.Dec.{ltb}
-use lib.ListN.{length, set}
+use lib.ListN.{set}
 use lib.Seq.{set_out, set-get_or, get_or-set_same, get_or-set_other}
 use borrow.Author.Tests.{lt-ltb, le-ltb}
 use Rattle.laws.specs.Choice.{pick, at}
@@ -17,9 +17,9 @@ use Rattle.model.specs.Sizes.{pages, sets, ways, lines}
 use Rattle.model.specs.State.{State, lead, nowhere, is_page, line_at}
 use Rattle.model.specs.Parts.{shaped, with_cache, take_out, enter}
 use Rattle.model.specs.Valid.{Sized}
-use Rattle.numbers.specs.declared.Lead.TheVariants.{To, Nowhere}
+use Rattle.std.specs.Prelude.{Some, None}
 use Rattle.numbers.specs.Lead.{ma, lead_of, place_of}
-use Rattle.host.specs.View.{put, put_memory, put_line, line_address_field, line_page_field, history_field}
+use Rattle.host.specs.View.{put, put_memory, history_field}
 use Rattle.numbers.proofs.Leads.{place_lead}
 use Rattle.cache.specs.declared.Line.{Line}
 use Rattle.cache.specs.declared.Set.{Set}
@@ -28,12 +28,6 @@ use Rattle.cache.specs.Lines.{put_whole, put_ways, put_back}
 use Rattle.cache.proofs.Sets.{way_is}
 
 -- ---- one line
-
--- three stores are a line stored whole
-pub put_whole_law : (s : State) (i : ℕ) (l : Line)
-    → put_line (put line_page_field (put line_address_field s i l.address.0) i l.page.0) i l.value ≡ put_whole s i l
-unfolding put put_line put_whole
-put_whole_law s i l = refl
 
 -- the lists of lines with others in their place
 abbrev with_lines : State → List ℕ → List ℕ → List ℕ → State
@@ -163,14 +157,14 @@ line_replaced s i l x y u ex ey eu =
 -- ---- a line saved
 
 -- to the page that it leads to
-pub saved_to : (s : State) (e p v : ℕ) → lead_of e ≡ To (ma p) → put_memory s p v ≡ put_memory s (lead e) v
+pub saved_to : (s : State) (e p v : ℕ) → lead_of e ≡ Some (ma p) → put_memory s p v ≡ put_memory s (lead e) v
 saved_to s e p v q = ap (λ (n : ℕ). put_memory s n v) (sym (ap place_of q) ∙ place_lead e)
 
 -- nowhere is past the end of memory
-pub saved_nowhere : (s : State) (e v : ℕ) → length s.values.memory ≡ pages → lead_of e ≡ Nowhere → s ≡ put_memory s (lead e) v
+pub saved_nowhere : (s : State) (e v : ℕ) → Sized s → lead_of e ≡ None → s ≡ put_memory s (lead e) v
 unfolding put_memory
-saved_nowhere s e v l q =
-    let m = set_out s.values.memory nowhere v (omega arith) in
+saved_nowhere s e v z q =
+    let m = set_out s.values.memory nowhere v (omega (arith, z.memory)) in
     (λ j. record { shape = s.shape; values = record { memory = sym m j; line = s.values.line } })
     ∙ ap (λ (n : ℕ). put_memory s n v) (sym (ap place_of q) ∙ place_lead e)
 

@@ -1,6 +1,6 @@
 -- The cache in a state: a set put back, an access, the lines of a page.
 -- Assumes nothing.
-use Rattle.std.specs.Prelude.{◌≡◌, Bool, ◌&&◌, List, ℕ, zero, suc, ltb, eqb, set}
+use Rattle.std.specs.Prelude.{◌≡◌, Bool, ◌&&◌, List, ℕ, zero, suc, ltb, eqb, set, Option, Some, None}
 use Rattle.laws.specs.Choice.{pick, at}
 use Rattle.laws.specs.Search.{list_of}
 use Rattle.model.specs.Sizes.{ways, lines}
@@ -13,8 +13,6 @@ use Rattle.model.specs.Write.{store}
 use Rattle.host.specs.View.{put, put_memory, history_field}
 use Rattle.cache.specs.declared.Line.{Line}
 use Rattle.cache.specs.declared.Set.{Set}
-use Rattle.cache.specs.declared.Purpose.{Purpose}
-use Rattle.cache.specs.declared.Purpose.TheVariants.{Read, Write}
 use Rattle.cache.specs.Sets.{way_in}
 
 -- ---- a set put back
@@ -54,35 +52,35 @@ unfoldable pub found : State → ℕ → ℕ → ℕ
 found s va p = pick (is_cacheable s.shape p) (at s.values.line (line_of s.shape va p)) (at s.values.memory p)
 
 -- what it holds after an access that found v there
-abbrev pub after : Purpose → ℕ → ℕ
-after Read v = v
-after (Write n) v = n
+abbrev pub after : Option ℕ → ℕ → ℕ
+after None v = v
+after (Some n) v = n
 
 -- the line, or memory if the page is not cacheable, holds n: what `store` does under write-back
 unfoldable pub stored_in : State → ℕ → ℕ → ℕ → State
 stored_in s va p n = record { shape = s.shape; values = (store (shaped s (with_policy s.shape write_back)) va p n).values }
 
-unfoldable pub line_for : Purpose → State → ℕ → ℕ → State
-line_for Read s va p = accessed s va p
-line_for (Write n) s va p = stored_in (accessed s va p) va p n
+unfoldable pub line_for : Option ℕ → State → ℕ → ℕ → State
+line_for None s va p = accessed s va p
+line_for (Some n) s va p = stored_in (accessed s va p) va p n
 
 -- an access but for write-through
-pub record AccessesLine (s : State) (va p : ℕ) (x : Purpose) (v : ℕ) (t : State) : Type 0 where
+pub record AccessesLine (s : State) (va p : ℕ) (x : Option ℕ) (v : ℕ) (t : State) : Type 0 where
   pub value : v ≡ found (accessed s va p) va p
   pub state : t ≡ line_for x s va p
 
 -- and under write-through memory holds what is written too
-unfoldable pub through_for : Purpose → State → ℕ → State
-through_for Read s p = s
-through_for (Write n) s p = pick (is_through s.shape) (put_memory s p n) s
+unfoldable pub through_for : Option ℕ → State → ℕ → State
+through_for None s p = s
+through_for (Some n) s p = pick (is_through s.shape) (put_memory s p n) s
 
 -- the state after an access for a purpose
-unfoldable pub accessed_for : Purpose → State → ℕ → ℕ → State
-accessed_for Read s va p = accessed s va p
-accessed_for (Write n) s va p = store (accessed s va p) va p n
+unfoldable pub accessed_for : Option ℕ → State → ℕ → ℕ → State
+accessed_for None s va p = accessed s va p
+accessed_for (Some n) s va p = store (accessed s va p) va p n
 
 -- An access to page p at va: v is what the line, or memory, has once the line is there, and t the state.
-pub record Accesses (s : State) (va p : ℕ) (x : Purpose) (v : ℕ) (t : State) : Type 0 where
+pub record Accesses (s : State) (va p : ℕ) (x : Option ℕ) (v : ℕ) (t : State) : Type 0 where
   pub value : v ≡ found (accessed s va p) va p
   pub state : t ≡ accessed_for x s va p
 

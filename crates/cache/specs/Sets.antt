@@ -1,6 +1,6 @@
 -- A set of the cache as a value, read from a state, and what is done with one.
 -- Assumes nothing.
-use Rattle.std.specs.Prelude.{Bool, ◌&&◌, ℕ, suc, ltb, eqb, get_or, set}
+use Rattle.std.specs.Prelude.{Bool, ◌&&◌, ℕ, suc, ltb, eqb, get_or, set, Option, Some, None}
 use Rattle.laws.specs.Choice.{pick, at}
 use Rattle.laws.specs.Search.{first_below, list_of}
 use Rattle.model.specs.Sizes.{ways}
@@ -35,6 +35,10 @@ way_in t w = get_or t.ways w empty_line
 
 abbrev pub has_key_in : Line → ℕ → ℕ → Bool
 has_key_in l va p = leads_at (lead_of l.page.0) p && eqb l.address.0 va
+
+-- a number that is found below n, and n where none is, as an answer of code
+abbrev pub if_below : ℕ → ℕ → Option ℕ
+if_below n i = pick (ltb i n) (Some i) None
 
 -- the way that has the key, or `ways`
 unfoldable pub find_in : Set → ℕ → ℕ → ℕ

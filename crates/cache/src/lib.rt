@@ -1,17 +1,19 @@
 // One set of the cache as an array of lines, taken by value, one way replaced, handed back; loaded from the host's bytes and put back there.
 #![tactic(auto)]
 
-mod lines;
+mod lines; // the cache in the host's bytes
+mod page; // a number that is known to be a page
 
-ghost use Rattle.std.specs.Prelude.{◌≡◌, ◌≤◌, ◌<◌, ltb};
+ghost use Rattle.std.specs.Prelude.{◌≡◌, ◌≤◌, ◌<◌};
 ghost use Rattle.laws.specs.Choice.{pick};
-ghost use Rattle.model.specs.Sizes.{sets, ways};
+ghost use Rattle.model.specs.Sizes.{sets, ways, lines};
 ghost use Rattle.host.specs.View.{view};
-ghost use Rattle.cache.specs.Sets.{line_from, set_from, empty_line, way_in, has_key_in, find_in, empty_way, place_in, replaced_in, used_in, entered_in};
+ghost use Rattle.cache.specs.Sets.{line_from, set_from, empty_line, if_below, has_key_in, find_in, empty_way, place_in, replaced_in, used_in, entered_in};
 ghost use Rattle.cache.specs.Lines.{put_whole, put_back};
 
-use host::{Held, Host, Lead, Ma, Va};
+use host::{Held, Host, Ma, Va};
 pub use lines::{access, fill, take_out, take_out_page};
+pub use page::MachinePage;
 
 pub const WAYS: usize = host::WAYS;
 
@@ -30,112 +32,79 @@ pub struct Set {
     pub history: u8,
 }
 
-// What an access is for: to read, or to write a value.
-#[derive(Clone, Copy)]
-pub enum Purpose {
-    Read,
-    Write(u32),
+// ---- a line by value
+
+impl Line {
+    // Every number 0.
+    fn empty() -> Line
+        ensures { result ≡ empty_line }
+    {
+        Line {
+            address: Va(0),
+            page: host::held_for(None),
+            value: 0,
+        }
+    }
+
+    // Whether it has the key: page and address.
+    pub fn has_key(self, a: Va, p: Ma) -> bool
+        ensures { result ≡ has_key_in self a.0 p.0 }
+    {
+        host::leads_to(host::lead_in(self.page), p) && self.address == a
+    }
 }
 
 // ---- a set by value
 
-// Whether the line has the key: page and address.
-pub fn has_key(l: Line, a: Va, p: Ma) -> bool
-    ensures { result ≡ has_key_in l a.0 p.0 }
-{
-    let to = host::lead_in(l.page);
-    host::leads_to(to, p) && l.address.0 == a.0
-}
+impl Set {
+    // The way with the key.
+    pub fn find(self, a: Va, p: Ma) -> Option<usize>
+        ensures { result ≡ if_below ways (find_in self a.0 p.0) }
+    {
+        self.ways.iter().position(|l| l.has_key(a, p))
+    }
 
-// The way with the key, or WAYS.
-pub fn find(s: Set, a: Va, p: Ma) -> usize
-    ensures { result ≡ find_in s a.0 p.0 }
-{
-    for w in 0..WAYS {
-        let l = s.ways[w];
-        if has_key(l, a, p) {
-            return w;
+    // The lower empty way.
+    fn empty_way(self) -> Option<usize>
+        ensures { result ≡ if_below ways (empty_way self) }
+    {
+        self.ways.iter().position(|l| host::is_empty(l.page))
+    }
+
+    // The way for a line that enters: the lower empty one; if none, the one the history names.
+    #[tactic(auto, using(crate::proofs::Found::below_else), unfolding(crate::specs::Sets::place_in))]
+    pub fn place(self) -> usize
+        ensures { result ≡ place_in self }
+    {
+        self.empty_way().unwrap_or(self.history as usize)
+    }
+
+    // One way replaced; nothing past the last.
+    pub fn replaced(self, w: usize, l: Line) -> Set
+        ensures { result ≡ replaced_in self w l }
+    {
+        let mut t = self;
+        if w < WAYS {
+            t.ways[w] = l;
         }
+        t
     }
-    WAYS
-}
 
-// The lower empty way, or WAYS.
-fn empty_way(s: Set) -> usize
-    ensures { result ≡ empty_way s }
-{
-    for w in 0..WAYS {
-        let l = s.ways[w];
-        if host::is_empty(l.page) {
-            return w;
+    // After a hit in way w: as it was.
+    pub fn used(self, w: usize) -> Set
+        ensures { result ≡ used_in self w }
+    {
+        self
+    }
+
+    // After a line entered way w: the history names the next way, after the last the first.
+    pub fn entered(self, w: usize) -> Set
+        ensures { result ≡ entered_in self w }
+    {
+        Set {
+            history: if w < WAYS - 1 { (w + 1) as u8 } else { 0 },
+            ..self
         }
-    }
-    WAYS
-}
-
-// The way for a line that enters: the lower empty one; if none, the one the history names.
-pub fn place(s: Set) -> usize
-    ensures { result ≡ place_in s }
-{
-    let w = empty_way(s);
-    if w < WAYS { w } else { s.history as usize }
-}
-
-// The empty line: every number 0.
-fn empty_line() -> Line
-    ensures { result ≡ empty_line }
-{
-    Line {
-        address: Va(0),
-        page: host::held_for(Lead::Nowhere),
-        value: 0,
-    }
-}
-
-// Way w, the empty line past the last. A loop, as in `replaced`, so that the compiler may keep the set in registers.
-fn way(s: Set, w: usize) -> Line
-    ensures { result ≡ pick (ltb w ways) (way_in s w) empty_line }
-{
-    for j in 0..WAYS {
-        if j == w {
-            return s.ways[j];
-        }
-    }
-    empty_line()
-}
-
-// One way replaced; nothing past the last.
-pub fn replaced(s: Set, w: usize, l: Line) -> Set
-    ensures { result ≡ replaced_in s w l }
-{
-    let mut t = s;
-    for j in 0..WAYS {
-        if j == w {
-            t.ways[j] = l;
-        }
-    }
-    t
-}
-
-// After a hit in way w: as it was.
-pub fn used(s: Set, w: usize) -> Set
-    ensures { result ≡ used_in s w }
-{
-    let ways = s.ways;
-    Set {
-        ways,
-        history: s.history,
-    }
-}
-
-// After a line entered way w: the history names the next way, after the last the first.
-pub fn entered(s: Set, w: usize) -> Set
-    ensures { result ≡ entered_in s w }
-{
-    let ways = s.ways;
-    Set {
-        ways,
-        history: if w < WAYS - 1 { (w + 1) as u8 } else { 0 },
     }
 }
 
@@ -155,27 +124,22 @@ fn set_at(h: &Host, k: usize) -> Set
     requires { k ≤ sets }
     ensures { result ≡ set_from (view h.now) k }
 {
-    let a = line_at(h, WAYS * k);
-    let b = line_at(h, WAYS * k + 1);
     Set {
-        ways: [a, b],
+        ways: std::array::from_fn(|w| line_at(h, WAYS * k + w)),
         history: host::history(h, k),
     }
 }
 
 // Set k; past the last set each number is 0.
+#[tactic(auto, using(crate::proofs::Sets::set_past, host::proofs::Inverse::view_sized))]
 pub fn load(h: &Host, k: usize) -> Set
     ensures { result ≡ set_from (view h.now) k }
 {
-    host::whole(h);
-    if k < host::SETS {
-        set_at(h, k)
-    } else {
-        set_at(h, host::SETS)
-    }
+    set_at(h, k.min(host::SETS))
 }
 
 // Line i is l; nothing past the last.
+#[tactic(auto, unfolding(crate::specs::Lines::put_whole, host::specs::View::put, host::specs::View::put_line))]
 fn put_line(h: &mut Host, i: usize, l: Line)
     ensures { view h.new ≡ put_whole (view h.old) i l }
 {
@@ -188,18 +152,17 @@ fn put_set(h: &mut Host, k: usize, s: Set)
     requires { k < sets }
     ensures { view h.new ≡ put_back (view h.old) k s }
 {
-    for w in 0..WAYS {
-        let l = s.ways[w];
-        put_line(h, WAYS * k + w, l);
+    for (w, l) in s.ways.iter().enumerate() {
+        put_line(h, WAYS * k + w, *l);
     }
     host::set_history(h, k, s.history);
 }
 
 // Set k is s, each way and the history: all that writes a line of the bytes. Nothing past the last set.
+#[tactic(auto, using(crate::proofs::Whole::put_back_past, host::proofs::Inverse::view_sized))]
 pub fn put_back(h: &mut Host, k: usize, s: Set)
     ensures { view h.new ≡ put_back (view h.old) k s }
 {
-    host::whole(h);
     if k < host::SETS {
         put_set(h, k, s);
     }

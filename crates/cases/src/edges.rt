@@ -1,72 +1,59 @@
-// A journal of so many bytes, its records silent, with so many bytes of room for answers.
+// Journals of so many bytes, their records silent, with so many bytes of room for answers.
 use super::show::{number, say};
 use host::Host;
-use journal::Verdict;
+use journal::Report;
+use numbers::Refusal;
 
 const JOURNAL: usize = 8 + 8 * 4097;
 
 const ROOM: usize = 8 * 4096;
 
-fn verdict(v: Verdict) {
-    match v {
-        Verdict::Done(r) => {
-            say(b" done");
-            number(r.taken as u64);
-            number(r.accepted as u64);
-            number(r.refused as u64);
-            number(r.left_over as u64);
+fn show_ran(ran: Result<Report, Refusal>) {
+    match ran {
+        Ok(r) => {
+            say(" done");
+            for n in [r.taken, r.accepted, r.refused, r.left_over] {
+                number(n as u64);
+            }
         }
-        Verdict::Refused(n) => {
-            say(b" refused");
-            number(n as u64);
-        }
-    }
-    say(b"\n");
-}
-
-// A part of the bytes, and of the room.
-fn run(h: &mut Host, bytes: &[u8], length: usize, answers: &mut [u8], room: usize) {
-    if length <= bytes.len() {
-        if room <= answers.len() {
-            let v = journal::run(h, &bytes[..length], &mut answers[..room]);
-            verdict(v);
+        Err(refusal) => {
+            say(" refused");
+            number(u8::from(refusal) as u64);
         }
     }
+    say("\n");
 }
 
-fn edge(h: &mut Host, bytes: &[u8], length: usize, room: usize) {
-    say(b"journal");
-    number(length as u64);
-    number(room as u64);
-    let mut answers = [0u8; ROOM];
-    run(h, bytes, length, &mut answers, room);
+fn edge(h: &mut Host, journal: &[u8], answers: &mut [u8]) {
+    say("journal");
+    number(journal.len() as u64);
+    number(answers.len() as u64);
+    show_ran(journal::run(h, journal, answers));
 }
 
-fn short(h: &mut Host, bytes: &[u8; JOURNAL]) {
-    edge(h, bytes, 0, ROOM);
-    edge(h, bytes, 7, ROOM);
-    edge(h, bytes, 8, 0);
-    edge(h, bytes, 15, 0);
-    edge(h, bytes, 16, 8);
-    edge(h, bytes, 16, 7);
-    edge(h, bytes, 23, 8);
+fn short(h: &mut Host, bytes: &[u8; JOURNAL], answers: &mut [u8; ROOM]) {
+    edge(h, &bytes[..0], answers);
+    edge(h, &bytes[..7], answers);
+    edge(h, &bytes[..8], &mut answers[..0]);
+    edge(h, &bytes[..15], &mut answers[..0]);
+    edge(h, &bytes[..16], &mut answers[..8]);
+    edge(h, &bytes[..16], &mut answers[..7]);
+    edge(h, &bytes[..23], &mut answers[..8]);
 }
 
-fn long(h: &mut Host, bytes: &[u8; JOURNAL]) {
-    edge(h, bytes, 32776, ROOM);
-    edge(h, bytes, 32783, ROOM);
-    edge(h, bytes, 32783, 32767);
-    edge(h, bytes, 32784, ROOM);
+fn long(h: &mut Host, bytes: &[u8; JOURNAL], answers: &mut [u8; ROOM]) {
+    edge(h, &bytes[..32776], answers);
+    edge(h, &bytes[..32783], answers);
+    edge(h, &bytes[..32783], &mut answers[..32767]);
+    edge(h, bytes, answers);
 }
 
 pub(crate) fn edges(h: &mut Host) {
-    say(b"edges of a journal\n");
+    say("edges of a journal\n");
     host::fresh(h);
     let mut bytes = [0u8; JOURNAL];
-    bytes[0] = b'R';
-    bytes[1] = b'P';
-    bytes[2] = b'J';
-    bytes[3] = 1;
-    short(h, &bytes);
-    long(h, &bytes);
+    bytes[..4].copy_from_slice(b"RPJ\x01");
+    let mut answers = [0u8; ROOM];
+    short(h, &bytes, &mut answers);
+    long(h, &bytes, &mut answers);
 }

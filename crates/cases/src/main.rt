@@ -6,34 +6,29 @@ mod edges; // edges.rt: journals of the lengths where the answer changes
 mod show; // show.rt: what is printed
 
 use host::Host;
-use show::{one, say, two};
-use steps::Answer;
+use numbers::code_of;
+use show::{say, say_line};
 
 // A record without a value; the answer's number.
 fn give(h: &mut Host, kind: u8, a: u8, b: u8, call: u8) -> u8 {
-    let bytes = [kind, a, b, call, 0, 0, 0, 0];
-    let answer = steps::step(h, &bytes);
-    match answer {
-        Answer::Done(_) => 0,
-        Answer::Refused(n) => n,
-    }
+    let answer = steps::step(h, &[kind, a, b, call, 0, 0, 0, 0]);
+    code_of(answer.map(|_| ()))
 }
 
 fn show_answer(h: &mut Host, bytes: &[u8; 8]) {
-    let answer = steps::step(h, bytes);
-    match answer {
-        Answer::Done(v) => two(b"answer", 0, v as u64),
-        Answer::Refused(n) => two(b"answer", n as u64, 0),
+    match steps::step(h, bytes) {
+        Ok(value) => say_line("answer", &[0, value as u64]),
+        Err(refusal) => say_line("answer", &[u8::from(refusal) as u64, 0]),
     }
 }
 
 fn read(h: &mut Host, va: u8) {
-    one(b"read", va as u64);
+    say_line("read", &[va as u64]);
     show_answer(h, &[1, va, 0, 0, 0, 0, 0, 0]);
 }
 
 fn write(h: &mut Host, va: u8, low: u8, high: u8) {
-    two(b"write", va as u64, low as u64 + 256 * high as u64);
+    say_line("write", &[va as u64, low as u64 + 256 * high as u64]);
     show_answer(h, &[3, va, 0, 0, low, high, 0, 0]);
 }
 
@@ -42,8 +37,8 @@ fn call(h: &mut Host, kind: u8, call: u8, a: u8, b: u8) {
     let asked = give(h, 10, a, b, call);
     let acted = give(h, kind, a, b, 0);
     let back = give(h, 12, 0, 0, 0);
-    show::call(call, a, b);
-    show::three(asked, acted, back);
+    say_line("call", &[call, a, b].map(u64::from));
+    say_line("answers", &[asked, acted, back].map(u64::from));
 }
 
 fn new(h: &mut Host, va: u8, pa: u8) {
@@ -65,8 +60,8 @@ fn go(h: &mut Host, guest: u8) {
     let left = give(h, 11, 0, 0, 0);
     let there = give(h, 8, guest, 0, 0);
     let runs = give(h, 12, 0, 0, 0);
-    one(b"guest", guest as u64);
-    show::three(left, there, runs);
+    say_line("guest", &[guest as u64]);
+    say_line("answers", &[left, there, runs].map(u64::from));
 }
 
 fn page_and_set(h: &Host) {
@@ -76,7 +71,7 @@ fn page_and_set(h: &Host) {
 
 // A page at 0, written; then at 1 too.
 fn mapped_twice(h: &mut Host) {
-    say(b"a page at 0, then at 1 too\n");
+    say("a page at 0, then at 1 too\n");
     host::fresh(h);
     page_at(h, 1, 0);
     write(h, 0, 44, 1);
@@ -91,7 +86,7 @@ fn mapped_twice(h: &mut Host) {
 
 // Three pages of one set.
 fn third_takes_out(h: &mut Host) {
-    say(b"pages at 0, 8 and 16\n");
+    say("pages at 0, 8 and 16\n");
     host::fresh(h);
     page_at(h, 1, 0);
     page_at(h, 2, 8);
@@ -119,11 +114,11 @@ fn other_guests(h: &mut Host) {
 
 // Every free page, by all guests; then one more.
 fn all_pages(h: &mut Host) {
-    say(b"all pages pinned\n");
+    say("all pages pinned\n");
     host::fresh(h);
     fourteen_pins(h);
     other_guests(h);
-    one(b"free", host::free_pages(h) as u64);
+    say_line("free", &[host::free_pages(h) as u64]);
     one_more(h);
 }
 
@@ -132,11 +127,11 @@ fn one_more(h: &mut Host) {
     pin(h, 15);
     let there = give(h, 8, 2, 0, 0);
     let runs = give(h, 12, 0, 0, 0);
-    two(b"answers", there as u64, runs as u64);
+    say_line("answers", &[there as u64, runs as u64]);
     call(h, 14, 5, 3, 0);
-    one(b"free", host::free_pages(h) as u64);
+    say_line("free", &[host::free_pages(h) as u64]);
     pin(h, 15);
-    one(b"free", host::free_pages(h) as u64);
+    say_line("free", &[host::free_pages(h) as u64]);
 }
 
 fn main() {

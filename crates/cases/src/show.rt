@@ -1,76 +1,57 @@
 // What is printed: words and numbers, an answer to a call, a page and a set of the cache.
-use host::{Host, Lead, Ma};
+use host::{Host, Ma};
 
 const STDOUT_FILENO: i32 = 1;
 
-pub(crate) fn say(s: &[u8]) {
-    io::write_all(STDOUT_FILENO, s);
+pub(crate) fn say(s: &str) {
+    io::write_all(STDOUT_FILENO, s.as_bytes());
 }
 
 pub(crate) fn number(n: u64) {
-    say(b" ");
+    say(" ");
     io::print_decimal(STDOUT_FILENO, n);
 }
 
-// A word, and a number or two.
-pub(crate) fn one(word: &[u8], a: u64) {
+// A word and numbers.
+pub(crate) fn say_line(word: &str, numbers: &[u64]) {
     say(word);
-    number(a);
-    say(b"\n");
-}
-
-pub(crate) fn two(word: &[u8], a: u64, b: u64) {
-    say(word);
-    number(a);
-    number(b);
-    say(b"\n");
-}
-
-pub(crate) fn call(call: u8, a: u8, b: u8) {
-    say(b"call");
-    number(call as u64);
-    number(a as u64);
-    number(b as u64);
-    say(b"\n");
-}
-
-pub(crate) fn three(a: u8, b: u8, c: u8) {
-    say(b"answers");
-    number(a as u64);
-    number(b as u64);
-    number(c as u64);
-    say(b"\n");
+    for &n in numbers {
+        number(n);
+    }
+    say("\n");
 }
 
 pub(crate) fn page(h: &Host, p: u8) {
-    say(b"page");
+    say("page");
     number(p as u64);
-    say(b" memory");
+    say(" memory");
     number(host::memory(h, Ma(p)) as u64);
-    say(b" cacheable");
+    say(" cacheable");
     number(host::cacheable(h, Ma(p)) as u64);
-    say(b"\n");
+    say("\n");
 }
 
 fn line(h: &Host, i: usize) {
     match host::line_page(h, i) {
-        Lead::To(p) => {
-            say(b" line");
+        Some(p) => {
+            say(" line");
             number(host::line_address(h, i).0 as u64);
             number(p.0 as u64);
             number(host::line_value(h, i) as u64);
         }
-        Lead::Nowhere => say(b" empty"),
+        None => say(" empty"),
     }
 }
 
 // The lines of set 0 or 1, as address, page and value, and its history.
 pub(crate) fn set(h: &Host, k: u8) {
-    say(b"set");
+    say("set");
     number(k as u64);
-    line(h, 2 * k as usize);
-    line(h, 2 * k as usize + 1);
-    say(b" history");
+    let first = host::WAYS * usize::from(k);
+    for i in first..first + host::WAYS {
+        line(h, i);
+    }
+    say(" history");
     number(host::history(h, k as usize) as u64);
-    say(b"\n");
+    say("\n");
 }

@@ -1,20 +1,26 @@
 -- Rule 6: one pass over the entries that remembers where each page was seen finds a page at two addresses exactly if there is one.
 -- Assumes nothing.
-use mathlib.Core.Path.{◌≡◌, sym, ap, ◌∙◌, subst}
+use mathlib.Core.Path.{◌≡◌, refl, sym, ap, ◌∙◌, subst}
 use mathlib.Core.Logic.{◌≢◌}
-use mathlib.Core.Bool.{Bool, true, false, ◌&&◌, not}
+use mathlib.Core.Bool.{Bool, true, false, ◌&&◌, not, true≢false}
 use mathlib.Core.List.{List}
-use Prim.Native.Nat.{ℕ, suc, ◌+◌, ◌*◌, ◌/◌, ◌%◌, ◌≤◌, ◌<◌}
-use native.Mathlib.Numerals.{add-one}
+use Prim.Native.Nat.{ℕ, ◌+◌, ◌*◌, ◌/◌, ◌%◌, ◌≤◌, ◌<◌}
 use native.Mathlib.Omega.{arith}
-use lib.Dec.{ltb, eqb}
-use lib.ListN.{length, set, length-set, replicate, length-replicate, get_or-replicate}
-use Rattle.laws.specs.Choice.{at, ◌⇔◌}
+use lib.Dec.{eqb}
+use lib.ListN.{length, get_or, set, length-set, replicate, length-replicate, get_or-replicate}
+use lib.Seq.{get_or-set_same, get_or-set_other}
+use borrow.Author.Tests.{lt-ltb, le-ltb}
+use Rattle.std.specs.Prelude.{Option, Some, None, option_and_then}
+use Rattle.std.specs.Bool.{then_some}
+use Rattle.numbers.specs.declared.Ma.{Ma}
+use Rattle.numbers.specs.declared.Va.{Va}
+use Rattle.numbers.specs.Lead.{ma, toward, lead_of}
+use Rattle.numbers.proofs.Leads.{toward_page, toward_none}
+use Rattle.laws.specs.Choice.{pick, at, ◌⇔◌}
 use Rattle.laws.specs.Search.{all_below}
 use Rattle.laws.proofs.Cases.{split, same?, below?, pick_yes, pick_not}
 use Rattle.laws.proofs.Tests.{eq⇔, lt⇔, and⇔, imp⇔, not⇔, as⇔, fails, not_so, agree}
 use Rattle.laws.proofs.Search.{all⇔}
-use Rattle.laws.proofs.Lists.{at_past, at_same, at_other}
 use Rattle.laws.proofs.Grid.{place_below, row_of_law, column_of, row_below, column_below}
 use Rattle.model.specs.Sizes.{pages, addresses, stealth}
 use Rattle.model.specs.Names.{kind_data, kind_table}
@@ -59,6 +65,28 @@ module _ (s : State) where
   counted_le m va =
       split (counts m va) (λ e. let w = ((counts⇔ m va).0 e).0.0.1 in omega (arith, counted_yes m va e)) (λ e. omega (arith, counted_not m va e))
 
+  -- as an answer of code, by the page that table m leads to
+  pub counted_law : (m va : ℕ)
+      → toward (counted s m va)
+      ≡ option_and_then (λ p. then_some (eqb (at s.shape.pages.kind m) kind_table && eqb (at s.shape.pages.kind p.0) kind_data && eqb (at s.shape.pages.cacheable p.0) 1) p)
+      (lead_of (at s.shape.pages.entry (addresses * m + va)))
+  unfolding counted
+  counted_law m va =
+      let q = led m va in
+      below? q pages
+      (λ h. rw (lt-ltb q pages h) (of_tests (eqb (at s.shape.pages.kind m) kind_table) (eqb (at s.shape.pages.kind q) kind_data) (eqb (at s.shape.pages.cacheable q) 1) q h))
+      (λ h. rw (le-ltb q pages h) (past (eqb (at s.shape.pages.kind m) kind_table) (eqb (at s.shape.pages.kind q) kind_data) (eqb (at s.shape.pages.cacheable q) 1) q))
+    where
+      of_tests : (k d c : Bool) (n : ℕ) → n < pages → toward (pick (k && true && d && c) n nowhere) ≡ then_some (k && d && c) (ma n)
+      of_tests true true true n h = toward_page n h
+      of_tests true true false n h = refl
+      of_tests true false c n h = refl
+      of_tests false d c n h = refl
+
+      past : (k d c : Bool) (n : ℕ) → toward (pick (k && false && d && c) n nowhere) ≡ None
+      past true d c n = refl
+      past false d c n = refl
+
   -- table m maps cacheable data p at va
   pub record Counted (m va p : ℕ) : Type 0 where
     pub maps : Maps s.shape.pages.kind s.shape.pages.entry m va p
@@ -95,54 +123,73 @@ module _ (s : State) where
 
   -- ---- the pass
 
+  abbrev pub seen_at : ℕ → Option Va
+  seen_at n = Some (record { 0 = n })
+
   -- after i entries: each page that was counted has its address, and each address was counted
-  pub record Seen (l : List ℕ) (i : ℕ) : Type 0 where
-    pub long : length l ≡ suc pages
-    pub every : (j : ℕ) → j < i → counted_at s j < pages → at l (counted_at s j) ≡ suc (j % addresses)
-    pub some : (p : ℕ) → p < pages → at l p ≢ 0 → (j : ℕ) × (j < i) × (counted_at s j ≡ p) × (at l p ≡ suc (j % addresses))
+  pub record Seen (l : List (Option Va)) (i : ℕ) : Type 0 where
+    pub long : length l ≡ pages
+    pub every : (j : ℕ) → j < i → counted_at s j < pages → get_or l (counted_at s j) None ≡ seen_at (j % addresses)
+    pub some : (p : ℕ) → p < pages → (v : Va) → get_or l p None ≡ Some v → (j : ℕ) × (j < i) × (counted_at s j ≡ p) × (v.0 ≡ j % addresses)
 
-  seen_none : (l : List ℕ) → length l ≡ suc pages → ((p : ℕ) → at l p ≡ 0) → Seen l 0
-  seen_none l e z = record { long = e; every = λ j h. absurd (omega arith); some = λ p h n. absurd (n (z p)) }
-
-  pub seen_start : Seen (replicate (suc pages) 0) 0
-  seen_start = seen_none (replicate (suc pages) 0) (length-replicate {A = ℕ} (suc pages) 0)
-      (λ p. below? p (suc pages) (λ h. get_or-replicate {A = ℕ} (suc pages) p 0 0 h) (λ h. at_past (replicate (suc pages) 0) p (omega (arith, length-replicate {A = ℕ} (suc pages) 0))))
-
-  pub seen_more : (l : List ℕ) (i : ℕ) → Seen l i → (counted_at s i < pages → at l (counted_at s i) ≢ 0 → at l (counted_at s i) ≡ suc (i % addresses))
-      → Seen (set l (counted_at s i) (suc (i % addresses))) (i + 1)
-  seen_more l i w ok =
-      let q = counted_at s i in
-      let b : q < length l = omega (arith, counted_le (i / addresses) (i % addresses), w.long) in
+  pub seen_start : Seen (replicate pages None) 0
+  seen_start =
       record {
-        long = length-set l q (suc (i % addresses)) ∙ w.long;
-        every = λ j h k.
-            same? (counted_at s j) q
-            (λ e. ap (at (set l q (suc (i % addresses)))) e ∙ at_same l q (suc (i % addresses)) b
-            ∙ same? j i (λ z. ap (λ (x : ℕ). suc (x % addresses)) (sym z))
-            (λ z. let v : at l q ≡ suc (j % addresses) = ap (at l) (sym e) ∙ w.every j (omega arith) k in sym (ok (omega arith) (λ n. omega arith)) ∙ v))
-            (λ n. at_other l q (suc (i % addresses)) (counted_at s j) n
-            ∙ w.every j (same? j i (λ z. absurd (n (ap (counted_at s) z))) (λ z. omega arith)) k);
-        some = λ p h n.
-            same? p q (λ e. (i, omega arith, sym e, ap (at (set l q (suc (i % addresses)))) e ∙ at_same l q (suc (i % addresses)) b))
-            (λ m.
-            let o = at_other l q (suc (i % addresses)) p m in
-            let v = w.some p h (λ z. n (o ∙ z)) in
-            (v.0, omega (arith, v.1), v.2, o ∙ v.3));
+        long = length-replicate {A = Option Va} pages None;
+        every = λ j h. absurd (omega arith);
+        some = λ p h v e. let n = get_or-replicate {A = Option Va} pages p None None h in let z : ◌≡◌ {A = ℕ} 0 1 = cc in absurd (omega arith);
       }
 
-  -- a page that was seen at another address
-  pub seen_clash : (l : List ℕ) (i : ℕ) → Seen l i → i < entries → counted_at s i < pages → at l (counted_at s i) ≢ 0 → at l (counted_at s i) ≢ suc (i % addresses) → Unshared → ⊥
-  seen_clash l i w h k n m u =
-      let v = w.some (counted_at s i) k n in
-      m (v.3 ∙ ap suc (u v.0 (omega (arith, v.1)) i h (subst (λ (p : ℕ). p < pages) (sym v.2) k, v.2)))
+  module _ (l : List (Option Va)) (i : ℕ) (w : Seen l i) where
+    abbrev q : ℕ
+    q = counted_at s i
+
+    -- an entry that is not counted
+    pub seen_past : pages ≤ q → Seen l (i + 1)
+    seen_past n =
+        record {
+          long = w.long;
+          every = λ j h k. w.every j (same? j i (λ z. let y : counted_at s j ≡ q = ap (counted_at s) z in absurd (omega arith)) (λ z. omega arith)) k;
+          some = λ p h v e. let x = w.some p h v e in (x.0, omega (arith, x.1), x.2, x.3);
+        }
+
+    -- one that is, and was seen at no other address
+    pub seen_more : q < pages → ((v : Va) → get_or l q None ≡ Some v → v.0 ≡ i % addresses) → Seen (set l q (seen_at (i % addresses))) (i + 1)
+    seen_more b ok =
+        let m = set l q (seen_at (i % addresses)) in
+        let here : get_or m q None ≡ seen_at (i % addresses) = get_or-set_same l q (seen_at (i % addresses)) None (omega (arith, w.long)) in
+        record {
+          long = length-set l q (seen_at (i % addresses)) ∙ w.long;
+          every = λ j h k.
+              same? (counted_at s j) q
+              (λ e. ap (λ (x : ℕ). get_or m x None) e ∙ here
+              ∙ same? j i (λ z. ap (λ (x : ℕ). seen_at (x % addresses)) (sym z))
+              (λ z. let v = ok (record { 0 = j % addresses }) (ap (λ (x : ℕ). get_or l x None) (sym e) ∙ w.every j (omega arith) k) in ap seen_at (sym v)))
+              (λ n. get_or-set_other l q (counted_at s j) (seen_at (i % addresses)) None n
+              ∙ w.every j (same? j i (λ z. absurd (n (ap (counted_at s) z))) (λ z. omega arith)) k);
+          some = λ p h v e.
+              same? p q
+              (λ z. let y : seen_at (i % addresses) ≡ Some v = sym here ∙ ap (λ (x : ℕ). get_or m x None) (sym z) ∙ e in (i, omega arith, sym z, cc))
+              (λ n.
+              let x = w.some p h v (sym (get_or-set_other l q p (seen_at (i % addresses)) None n) ∙ e) in
+              (x.0, omega (arith, x.1), x.2, x.3));
+        }
+
+    -- one that was seen at another address
+    pub seen_clash : i < entries → q < pages → (v : Va) → get_or l q None ≡ Some v → v.0 ≢ i % addresses → Unshared → ⊥
+    seen_clash h k v e n u =
+        let x = w.some q k v e in
+        n (x.3 ∙ u x.0 (omega (arith, x.1)) i h (subst (λ (p : ℕ). p < pages) (sym x.2) k, x.2))
 
   -- none
-  pub seen_all : (l : List ℕ) → Seen l entries → Unshared
+  pub seen_all : (l : List (Option Va)) → Seen l entries → Unshared
   seen_all l w i h j k e =
       let a = w.every i h e.0 in
       let b = w.every j k (subst (λ (p : ℕ). p < pages) e.1 e.0) in
-      let z : at l (counted_at s i) ≡ at l (counted_at s j) = ap (at l) e.1 in
-      omega arith
+      let z : get_or l (counted_at s i) None ≡ get_or l (counted_at s j) None = ap (λ (x : ℕ). get_or l x None) e.1 in
+      let y : seen_at (i % addresses) ≡ seen_at (j % addresses) = sym a ∙ z ∙ b in
+      let x : ◌≡◌ {A = Va} (record { 0 = i % addresses }) (record { 0 = j % addresses }) = cc in
+      ap (λ (v : Va). v.0) x
 
   -- ---- the rule
 
@@ -181,32 +228,56 @@ module _ (s : State) where
       )))
       (rule6⇔ s.shape.pages.kind s.shape.pages.cacheable s.shape.pages.entry z.entry)
 
-  -- ---- the pass as code tests it: k is the page that is counted at entry i
+  -- ---- the pass as code makes it: at address va of table m, entry i
 
-  abbrev clash : List ℕ → ℕ → ℕ → Bool
-  clash l i k = ltb k pages && not (eqb (at l k) 0) && not (eqb (at l k) (i % addresses + 1))
+  -- a page was seen, and not at va
+  abbrev pub elsewhere : Option Va → ℕ → Bool
+  elsewhere None va = false
+  elsewhere (Some v) va = not (eqb v.0 va)
 
-  clash⇔ : (l : List ℕ) (i k : ℕ) → clash l i k ⇔ (((k < pages) × (at l k ≡ 0 → ⊥)) × (at l k ≡ i % addresses + 1 → ⊥))
-  clash⇔ l i k = and⇔ (and⇔ (lt⇔ k pages) (not⇔ (eq⇔ (at l k) 0))) (not⇔ (eq⇔ (at l k) (i % addresses + 1)))
+  elsewhere_at : (o : Option Va) (va : ℕ) → elsewhere o va ≡ true → (v : Va) × (o ≡ Some v) × (v.0 ≢ va)
+  elsewhere_at None va t = absurd (true≢false (sym t))
+  elsewhere_at (Some v) va t = (v, refl, (not⇔ (eq⇔ v.0 va)).0 t)
 
-  module _ (l : List ℕ) (i k : ℕ) (w : Seen l i) (e : k ≡ counted_at s i) where
-    pub pass_clash : i < entries → clash l i k ≡ true → unshared s ≡ false
-    pass_clash h t =
-        let c = (clash⇔ l i k).0 t in
-        not_so unshared⇔ (seen_clash l i w h (omega arith) (λ z. c.0.1 (ap (at l) e ∙ z)) (λ z. c.1 (ap (at l) e ∙ z ∙ sym (add-one (i % addresses)))))
+  here_at : (o : Option Va) (va : ℕ) → elsewhere o va ≡ false → (v : Va) → o ≡ Some v → v.0 ≡ va
+  here_at o va t v e = same? v.0 va (λ q. q) (λ n. absurd (fails (not⇔ (eq⇔ v.0 va)) (ap (λ (x : Option Va). elsewhere x va) (sym e) ∙ t) n))
 
-    pub pass_more : clash l i k ≡ false → Seen (set l k (i % addresses + 1)) (i + 1)
-    pass_more t =
-        rw (e, add-one (i % addresses))
-        (seen_more l i w (λ h n. same? (at l (counted_at s i)) (suc (i % addresses)) (λ q. q)
-        (λ q. absurd (fails (clash⇔ l i k) t ((omega arith, λ z. n (ap (at l) (sym e) ∙ z)), λ z. q (ap (at l) (sym e) ∙ z ∙ add-one (i % addresses)))))))
+  module _ (l : List (Option Va)) (m va : ℕ) (h : m < pages) (k : va < addresses) (w : Seen l (addresses * m + va)) where
+    abbrev i : ℕ
+    i = addresses * m + va
 
-  module _ (m va p k d x : ℕ) (e : p ≡ led m va) (a : k ≡ at s.shape.pages.kind m) (b : d ≡ at s.shape.pages.kind p) (c : x ≡ at s.shape.pages.cacheable p) where
-    read : (eqb k kind_table && ltb p pages && eqb d kind_data && eqb x 1) ≡ counts m va
-    read = rw (c, b, a, e)
+    next : i + 1 ≡ addresses * m + (va + 1)
+    next = omega arith
 
-    pub count_page : (eqb k kind_table && ltb p pages && eqb d kind_data && eqb x 1) ≡ true → p ≡ counted s m va
-    count_page t = e ∙ sym (counted_yes m va (sym read ∙ t))
+    here : counted_at s i ≡ counted s m va
+    here = entry_of m va k
 
-    pub count_none : (eqb k kind_table && ltb p pages && eqb d kind_data && eqb x 1) ≡ false → nowhere ≡ counted s m va
-    count_none t = sym (counted_not m va (sym read ∙ t))
+    column : i % addresses ≡ va
+    column = column_of addresses (omega arith) m va k
+
+    pub pass_past : toward (counted s m va) ≡ None → Seen l (addresses * m + (va + 1))
+    pass_past n =
+        rw (← next)
+        (seen_past l i w (below? (counted s m va) pages (λ b. let z : ◌≡◌ {A = ℕ} 0 1 = cc (toward_page (counted s m va) b) in absurd (omega arith)) (λ b. omega (arith, here))))
+
+    module _ (p : Ma) (c : toward (counted s m va) ≡ Some p) where
+      page : counted s m va < pages
+      page = below? (counted s m va) pages (λ b. b) (λ b. let z : ◌≡◌ {A = ℕ} 0 1 = cc (toward_none (counted s m va) b) in absurd (omega arith))
+
+      counted_page : counted_at s i ≡ p.0
+      counted_page = let z : Some (ma (counted s m va)) ≡ Some p = sym (toward_page (counted s m va) page) ∙ c in let y : counted s m va ≡ p.0 = cc in here ∙ y
+
+      below : counted_at s i < pages
+      below = omega (arith, page, here)
+
+      pub pass_clash : elsewhere (get_or l p.0 None) va ≡ true → unshared s ≡ false
+      pass_clash t =
+          let x = elsewhere_at (get_or l p.0 None) va t in
+          not_so unshared⇔
+          (seen_clash l i w (place_below addresses (omega arith) pages m va h k) below x.0 (ap (λ (x : ℕ). get_or l x None) counted_page ∙ x.1) (λ z. x.2 (z ∙ column)))
+
+      pub pass_more : elsewhere (get_or l p.0 None) va ≡ false → Seen (set l p.0 (seen_at va)) (addresses * m + (va + 1))
+      pass_more t =
+          let ok = λ (v : Va) (d : get_or l (counted_at s i) None ≡ Some v). here_at (get_or l p.0 None) va t v (ap (λ (x : ℕ). get_or l x None) (sym counted_page) ∙ d) ∙ sym column in
+          let z : Seen (set l (counted_at s i) (seen_at (i % addresses))) (i + 1) = seen_more l i w below ok in
+          rw (counted_page, column, next) at z

@@ -20,8 +20,11 @@ use Rattle.keeps.proofs.Fresh.{fresh_valid}
 use Rattle.history.specs.Policies.{Alike}
 use Rattle.history.proofs.Policies.{alike_runs, alike_journals, fresh_alike}
 use Rattle.host.specs.View.{view}
-use Rattle.journal.specs.declared.Verdict.{Verdict}
-use Rattle.journal.specs.Promises.{Runs, verdict_to}
+use Rattle.std.specs.Prelude.{Result}
+use Rattle.numbers.specs.declared.refusal.Refusal.{Refusal}
+use Rattle.journal.specs.declared.Report.{Report}
+use Rattle.journal.specs.Promises.{Runs}
+use Rattle.journal.proofs.Answers.{one_verdict_from}
 use Rattle.guarantee.specs.Policies.{SameAnswers}
 
 -- two states that are alike, by other words for each
@@ -29,12 +32,12 @@ alike_as : {s t u w : State} → u ≡ s → w ≡ t → Alike s t → Alike u w
 alike_as {s} {t} {u} e f a = subst (Alike u) (sym f) (subst (λ (x : State). Alike x t) (sym e) a)
 
 -- any journal, run or refused, with any buffer
-pub same_journal : (x y z t j b : List ℕ) {v w : Verdict} {c d : List ℕ} → Valid (view x) → Valid (view z) → Alike (view x) (view z) → Bytes j
+pub same_journal : (x y z t j b : List ℕ) {v w : Result Report Refusal} {c d : List ℕ} → Valid (view x) → Valid (view z) → Alike (view x) (view z) → Bytes j
     → Runs (view x) j b v (view y) c → Runs (view z) j b w (view t) d → SameAnswers x y z t v w c d
-same_journal x y z t j b m n l bytes p q =
+same_journal x y z t j b {v} {w} m n l bytes p q =
     let u = alike_journals m n l j b bytes in
     record {
-      verdict = q.verdict ∙ ap verdict_to u.verdict ∙ sym p.verdict;
+      verdict = one_verdict_from w v (q.verdict ∙ u.verdict ∙ sym p.verdict);
       buffer = q.buffer ∙ u.buffer ∙ sym p.buffer;
       alike = alike_as p.state q.state u.alike;
       first_policy = ap (λ (s : State). s.shape.policy) p.state ∙ u.first_policy;
@@ -42,7 +45,7 @@ same_journal x y z t j b m n l bytes p q =
     }
 
 -- The theorem to quote: one journal of any bytes on two fresh machines, with any policies.
-pub fresh_same : (first second : ℕ) → first < policies → second < policies → (x y z t j b : List ℕ) {v w : Verdict} {c d : List ℕ}
+pub fresh_same : (first second : ℕ) → first < policies → second < policies → (x y z t j b : List ℕ) {v w : Result Report Refusal} {c d : List ℕ}
     → view x ≡ fresh_with first → view z ≡ fresh_with second → Bytes j → Runs (view x) j b v (view y) c → Runs (view z) j b w (view t) d
     → SameAnswers x y z t v w c d
 fresh_same first second f s x y z t j b e g =

@@ -22,10 +22,9 @@ use Rattle.model.proofs.Valid.{valid⇔}
 use Rattle.secrecy.specs.Secrecy.{is_active, hidden, hide, open_records, Sight, seen_by, seen, AllBytes}
 use Rattle.secrecy.proofs.Secret.{secret_from}
 use Rattle.host.specs.View.{view}
-use Rattle.image.specs.declared.Answer.TheVariants as code
+use Rattle.std.specs.Prelude.{Ok}
 use Rattle.image.specs.Promises.{Loads}
 use Rattle.journal.specs.declared.Report.{Report}
-use Rattle.journal.specs.declared.Verdict.TheVariants.{Done}
 use Rattle.journal.specs.Promises.{Runs}
 use Rattle.journal.proofs.Prefix.{run_valid}
 use Rattle.guarantee.specs.Secrecy.{Reply, replies_from, KeepsSecret}
@@ -52,7 +51,7 @@ replies_seen g s (r ∷ rs) i c h =
     (λ e. rw e (λ j. record { number = z.0 j; value = pick (is_active g s) 0 (z.1 j) } ∷ ih j))
 
 -- a journal that was run leaves them so
-module _ (s : State) (j b : List ℕ) (w : Bytes j) {r : Report} {t : State} {c : List ℕ} (p : Runs s j b (Done r) t c) where
+module _ (s : State) (j b : List ℕ) (w : Bytes j) {r : Report} {t : State} {c : List ℕ} (p : Runs s j b (Ok r) t c) where
   abbrev answers : List Answer
   answers = (run s (records_of j)).answers
 
@@ -78,7 +77,7 @@ all_bytes (r ∷ rs) b (suc i) = all_bytes rs b.1 i
 
 -- on two hosts that look the same
 pub journals_secret : (g : ℕ) (x j b c y z k e d t : List ℕ) {r q : Report} → hide g (view x) ≡ hide g (view z) → Bytes j → Bytes k
-    → Runs (view x) j b (Done r) (view y) c → Runs (view z) k e (Done q) (view t) d
+    → Runs (view x) j b (Ok r) (view y) c → Runs (view z) k e (Ok q) (view t) d
     → open_records g (view x) (records_of j) ≡ open_records g (view z) (records_of k) → KeepsSecret g x j c y z k d t
 journals_secret g x j b c y z k e d t same w u p q told =
     let o =
@@ -94,12 +93,12 @@ journals_secret g x j b c y z k e d t same w u p q told =
     }
 
 -- The theorem to quote: two journals of any bytes on one host.
-pub journal_secret : (g : ℕ) (x j b c y k e d t : List ℕ) {r q : Report} → Bytes j → Bytes k → Runs (view x) j b (Done r) (view y) c
-    → Runs (view x) k e (Done q) (view t) d → open_records g (view x) (records_of j) ≡ open_records g (view x) (records_of k) → KeepsSecret g x j c y x k d t
+pub journal_secret : (g : ℕ) (x j b c y k e d t : List ℕ) {r q : Report} → Bytes j → Bytes k → Runs (view x) j b (Ok r) (view y) c
+    → Runs (view x) k e (Ok q) (view t) d → open_records g (view x) (records_of j) ≡ open_records g (view x) (records_of k) → KeepsSecret g x j c y x k d t
 journal_secret g x j b c y k e d t = journals_secret g x j b c y x k e d t refl
 
 -- on hosts over which one image was loaded
-pub loaded_secret : (g : ℕ) (m n i x j b c y z k e d t : List ℕ) {r q : Report} → Loads (view m) i code.Done (view x) → Loads (view n) i code.Done (view z)
-    → Bytes j → Bytes k → Runs (view x) j b (Done r) (view y) c → Runs (view z) k e (Done q) (view t) d
+pub loaded_secret : (g : ℕ) (m n i x j b c y z k e d t : List ℕ) {r q : Report} → Loads (view m) i (Ok tt) (view x) → Loads (view n) i (Ok tt) (view z)
+    → Bytes j → Bytes k → Runs (view x) j b (Ok r) (view y) c → Runs (view z) k e (Ok q) (view t) d
     → open_records g (view x) (records_of j) ≡ open_records g (view z) (records_of k) → KeepsSecret g x j c y z k d t
 loaded_secret g m n i x j b c y z k e d t l o = journals_secret g x j b c y z k e d t (ap (hide g) (image_state l ∙ sym (image_state o)))

@@ -1,18 +1,17 @@
 -- Demand 3 by the bytes that `steps::run` and `journal::run` leave: the answer buffers say which actions were accepted; by these alone, what the
 -- host's bytes hold and what each read answered.
 -- Assumes nothing.
-use Rattle.std.specs.Prelude.{◌≡◌, List, [], ◌∷◌, ℕ}
+use Rattle.std.specs.Prelude.{◌≡◌, List, [], ◌∷◌, ℕ, Result, Ok, Err}
 use Rattle.laws.specs.Search.{list_of}
 use Rattle.model.specs.Sizes.{header_bytes}
 use Rattle.model.specs.State.{State}
 use Rattle.model.specs.Journal.{number_at, value_at}
 use Rattle.history.specs.Past.{Book, Past, past_after, values_after}
 use Rattle.history.specs.Rations.{Kept}
-use Rattle.steps.specs.declared.Answer.{Answer}
+use Rattle.numbers.specs.declared.refusal.Refusal.{Refusal}
 use Rattle.steps.specs.Promises.{Steps}
 use Rattle.steps.specs.Parts.{records_from}
-use Rattle.journal.specs.declared.Verdict.{Verdict}
-use Rattle.journal.specs.declared.Verdict.TheVariants.{Done, Refused}
+use Rattle.journal.specs.declared.Report.{Report}
 use Rattle.journal.specs.Promises.{Runs}
 
 -- ---- records that lie one after another, and their answers in a buffer
@@ -45,7 +44,7 @@ pub record Guarantee (b : Book) (s : State) (past : Past) (j : List ℕ) (start 
 pub record Turn : Type 0 where
   pub journal : List ℕ
   pub before : List ℕ
-  pub verdict : Verdict
+  pub verdict : Result Report Refusal
   pub after : List ℕ
 
 -- `journal::run` on each, one after another: verdicts, states and buffers as it promises them
@@ -54,14 +53,14 @@ Turns s [] t = t ≡ s
 Turns s (x ∷ xs) t = (u : State) × Runs s x.journal x.before x.verdict u x.after × Turns u xs t
 
 -- the past after a journal: a refused one adds nothing
-abbrev pub past_of : Past → List ℕ → Verdict → List ℕ → Past
-past_of past j (Done r) after = past_in past j header_bytes r.taken after
-past_of past j (Refused n) after = past
+abbrev pub past_of : Past → List ℕ → Result Report Refusal → List ℕ → Past
+past_of past j (Ok r) after = past_in past j header_bytes r.taken after
+past_of past j (Err n) after = past
 
 -- what its buffer says: a refused one's is as it was
-abbrev pub Answers : Book → Past → List ℕ → List ℕ → Verdict → List ℕ → Type 0
-Answers b past j before (Done r) after = values_in after r.taken ≡ values_by b past j header_bytes r.taken after
-Answers b past j before (Refused n) after = after ≡ before
+abbrev pub Answers : Book → Past → List ℕ → List ℕ → Result Report Refusal → List ℕ → Type 0
+Answers b past j before (Ok r) after = values_in after r.taken ≡ values_by b past j header_bytes r.taken after
+Answers b past j before (Err n) after = after ≡ before
 
 -- the past that all the buffers together tell, and what each of them says
 abbrev pub past_of_all : Past → List Turn → Past
@@ -82,7 +81,7 @@ pub record AllGuarantee (b : Book) (s : State) (past : Past) (xs : List Turn) (t
 -- ---- step after step
 
 -- `step` on each record, one after another: answers and states as it promises them
-abbrev pub Folds : State → List (List ℕ) → List Answer → State → Type 0
+abbrev pub Folds : State → List (List ℕ) → List (Result ℕ Refusal) → State → Type 0
 Folds s [] [] t = t ≡ s
 Folds s [] (x ∷ xs) t = ⊥
 Folds s (r ∷ rs) [] t = ⊥

@@ -6,3 +6,4 @@ pub mod Numbers
 pub mod Inverse
 pub mod FreshBytes
 pub mod Answers
+pub mod Columns

@@ -3,3 +3,5 @@ pub mod View
 pub mod FreshBytes
 pub mod Calls
 pub mod Policies
+pub mod Columns
+pub mod Values

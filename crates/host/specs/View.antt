@@ -1,7 +1,6 @@
 -- The bytes of a state: where each field stands (docs/STATE.md), and the state that they are.
 -- Assumes nothing.
 use Rattle.std.specs.Prelude.{◌≡◌, Bool, ◌&&◌, not, List, [], ◌∷◌, ℕ, zero, suc, eqb, ltb, length, set}
-use Rattle.laws.specs.Choice.{at}
 use Rattle.model.specs.State.{State}
 use Rattle.model.specs.Parts.{with_pages, with_policy, shaped, set_active, set_mode}
 use Rattle.laws.specs.Cut.{cut, part, edit, total}
@@ -167,23 +166,9 @@ unfoldable pub put_line : State → ℕ → ℕ → State
 put_line s i v = record { shape = s.shape; values = record { memory = s.values.memory; line = set s.values.line i v } }
 
 -- the lists of values, counted from memory_field
-abbrev pub valued : ℕ
-valued = 2
-
 abbrev pub worded : ℕ → State → List ℕ
 worded k s = part (s.values.memory ∷ s.values.line ∷ []) k
 
 abbrev pub put_word : ℕ → State → ℕ → ℕ → State
 put_word zero s i v = put_memory s i v
 put_word (suc k) s i v = put_line s i v
-
--- the numbers of one byte, counted from active_field
-abbrev pub singles : ℕ
-singles = 2
-
-abbrev pub single : ℕ → State → ℕ
-single k s = at (s.shape.guests.active ∷ s.shape.guests.mode ∷ []) k
-
-abbrev pub put_single : ℕ → State → ℕ → State
-put_single zero s v = put_active s v
-put_single (suc k) s v = put_mode s v

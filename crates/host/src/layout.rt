@@ -1,4 +1,9 @@
 // Where each field stands, in the order of docs/STATE.md.
+ghost use Rattle.std.specs.Prelude.{◌≡◌, false, IfSome, IfNone};
+ghost use Rattle.laws.specs.Cut.{begin, size};
+ghost use Rattle.host.specs.View.{sizes, listed};
+ghost use Rattle.host.specs.Columns.{number_of};
+
 use super::{ADDRESSES, Field, GUESTS, LINES, PAGES, PHYSICALS, SETS, SLOTS};
 
 pub(crate) const OWNER_AT: usize = 0;
@@ -41,110 +46,71 @@ pub(crate) const LINE_AT: usize = MEMORY_AT + 4 * PAGES;
 
 pub(crate) const POLICY_AT: usize = LINE_AT + 4 * LINES;
 
-pub(crate) const LISTED: usize = 17;
+// The fields that are lists of bytes, by their numbers in docs/STATE.md.
+#[derive(Clone, Copy, PartialEq, Eq)]
+pub(crate) enum Column {
+    Owner = 0,
+    Kind = 1,
+    Cacheable = 2,
+    Entry = 3,
+    Physical = 4,
+    Current = 6,
+    Call = 7,
+    CallA = 8,
+    CallB = 9,
+    LineAddress = 12,
+    LinePage = 13,
+    History = 14,
+    SlotAddress = 15,
+    SlotPage = 16,
+}
 
-// The fields that are lists of bytes, by their number, and the three among them that are not; values and policy stand behind them.
-pub(crate) const FIELDS: [Field; LISTED] = [
-    Field {
-        start: OWNER_AT,
-        size: PAGES,
-    },
-    Field {
-        start: KIND_AT,
-        size: PAGES,
-    },
-    Field {
-        start: CACHEABLE_AT,
-        size: PAGES,
-    },
-    Field {
-        start: ENTRY_AT,
-        size: PAGES * ADDRESSES,
-    },
-    Field {
-        start: PHYSICAL_AT,
-        size: GUESTS * PHYSICALS,
-    },
-    Field {
-        start: FREE_AT,
-        size: 8,
-    },
-    Field {
-        start: CURRENT_AT,
-        size: GUESTS,
-    },
-    Field {
-        start: CALL_AT,
-        size: GUESTS,
-    },
-    Field {
-        start: CALL_A_AT,
-        size: GUESTS,
-    },
-    Field {
-        start: CALL_B_AT,
-        size: GUESTS,
-    },
-    Field {
-        start: ACTIVE_AT,
-        size: 1,
-    },
-    Field {
-        start: MODE_AT,
-        size: 1,
-    },
-    Field {
-        start: LINE_ADDRESS_AT,
-        size: LINES,
-    },
-    Field {
-        start: LINE_PAGE_AT,
-        size: LINES,
-    },
-    Field {
-        start: HISTORY_AT,
-        size: SETS,
-    },
-    Field {
-        start: SLOT_ADDRESS_AT,
-        size: SLOTS,
-    },
-    Field {
-        start: SLOT_PAGE_AT,
-        size: SLOTS,
-    },
-];
+impl Column {
+    // Where it begins, and how many bytes it has.
+    pub(crate) fn extent(self) -> Field
+        ensures { (result.start ≡ begin sizes (number_of self)) × (result.size ≡ size sizes (number_of self)) }
+    {
+        let (start, size) = match self {
+            Column::Owner => (OWNER_AT, PAGES),
+            Column::Kind => (KIND_AT, PAGES),
+            Column::Cacheable => (CACHEABLE_AT, PAGES),
+            Column::Entry => (ENTRY_AT, PAGES * ADDRESSES),
+            Column::Physical => (PHYSICAL_AT, GUESTS * PHYSICALS),
+            Column::Current => (CURRENT_AT, GUESTS),
+            Column::Call => (CALL_AT, GUESTS),
+            Column::CallA => (CALL_A_AT, GUESTS),
+            Column::CallB => (CALL_B_AT, GUESTS),
+            Column::LineAddress => (LINE_ADDRESS_AT, LINES),
+            Column::LinePage => (LINE_PAGE_AT, LINES),
+            Column::History => (HISTORY_AT, SETS),
+            Column::SlotAddress => (SLOT_ADDRESS_AT, SLOTS),
+            Column::SlotPage => (SLOT_PAGE_AT, SLOTS),
+        };
+        Field { start, size }
+    }
 
-pub(crate) const OWNER: usize = 0;
-
-pub(crate) const KIND: usize = 1;
-
-pub(crate) const MARK: usize = 2;
-
-pub(crate) const ENTRY: usize = 3;
-
-pub(crate) const PHYSICAL: usize = 4;
-
-pub(crate) const FREE: usize = 5;
-
-pub(crate) const CURRENT: usize = 6;
-
-pub(crate) const CALL: usize = 7;
-
-pub(crate) const CALL_A: usize = 8;
-
-pub(crate) const CALL_B: usize = 9;
-
-pub(crate) const ACTIVE: usize = 10;
-
-pub(crate) const MODE: usize = 11;
-
-pub(crate) const LINE_ADDRESS: usize = 12;
-
-pub(crate) const LINE_PAGE: usize = 13;
-
-pub(crate) const HISTORY: usize = 14;
-
-pub(crate) const SLOT_ADDRESS: usize = 15;
-
-pub(crate) const SLOT_PAGE: usize = 16;
+    // The one with this number, if it is a list of bytes.
+    pub(crate) fn numbered(k: usize) -> Option<Column>
+        ensures some { IfSome result (λ c. number_of c ≡ k) }
+        ensures none { IfNone result (listed k ≡ false) }
+    {
+        let column = match k {
+            0 => Column::Owner,
+            1 => Column::Kind,
+            2 => Column::Cacheable,
+            3 => Column::Entry,
+            4 => Column::Physical,
+            6 => Column::Current,
+            7 => Column::Call,
+            8 => Column::CallA,
+            9 => Column::CallB,
+            12 => Column::LineAddress,
+            13 => Column::LinePage,
+            14 => Column::History,
+            15 => Column::SlotAddress,
+            16 => Column::SlotPage,
+            _ => return None,
+        };
+        Some(column)
+    }
+}

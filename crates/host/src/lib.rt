@@ -9,118 +9,34 @@ mod names; // sizes, and numbers that stand for names
 mod start; // the fresh machine
 mod values; // numbers of more than one byte, the active guest, the mode and the policy, the map of free pages
 
-ghost use Rattle.std.specs.Prelude.{◌≡◌, true, ◌+◌, ◌*◌, ◌<◌, eqb, ltb};
+ghost use Rattle.std.specs.Prelude.{◌≡◌, ◌+◌, ◌*◌, ◌<◌, eqb, ltb};
 ghost use Rattle.laws.specs.Choice.{at};
 ghost use Rattle.model.specs.Sizes.{addresses, physicals};
-ghost use Rattle.laws.specs.Cut.{begin, size};
-ghost use Rattle.host.specs.View.{sizes, view, listed, column, put, owner_field, kind_field, cacheable_field, entry_field, physical_field, current_field};
+ghost use Rattle.host.specs.View.{view, column, put, owner_field, kind_field, cacheable_field, entry_field, physical_field, current_field};
+ghost use Rattle.host.specs.Columns.{number_of};
 ghost use Rattle.numbers.specs.Lead.{lead_of, held_of};
 
-pub use calls::idle;
-pub use calls::is_pending;
-pub use calls::pending;
-pub use calls::set_pending;
-use layout::ACTIVE;
-use layout::CALL;
-use layout::CALL_A;
-use layout::CALL_B;
-use layout::CURRENT;
-use layout::ENTRY;
-use layout::FIELDS;
-use layout::FREE;
-use layout::KIND;
-use layout::LISTED;
-use layout::MARK;
-use layout::MODE;
-use layout::OWNER;
-use layout::PHYSICAL;
-pub use lines::history;
-pub use lines::line_address;
-pub use lines::line_empty;
-pub use lines::line_held;
-pub use lines::line_page;
-pub use lines::set_history;
-pub use lines::set_line_address;
-pub use lines::set_line_held;
-pub use lines::set_slot_address;
-pub use lines::set_slot_page;
-pub use lines::slot_address;
-pub use lines::slot_empty;
-pub use lines::slot_page;
-pub use names::ADDRESSES;
-pub use names::CACHEABLE;
-pub use names::CALL_A_BOUND;
-pub use names::CALL_B_BOUND;
-pub use names::FIRST_FREE_PAGE;
-pub use names::FIRST_HOST_PAGE;
-pub use names::FIRST_RESERVED;
-pub use names::GUESTS;
-pub use names::HISTORIES;
-pub use names::KIND_DATA;
-pub use names::KIND_NONE;
-pub use names::KIND_TABLE;
-pub use names::LINES;
-pub use names::MARKS;
-pub use names::OWNER_GUEST;
-pub use names::OWNER_HOST;
-pub use names::OWNER_NONE;
-pub use names::PAGES;
-pub use names::PHYSICALS;
-pub use names::POLICIES;
-pub use names::RUNNING;
-pub use names::SETS;
-pub use names::SIZE;
-pub use names::SLOTS;
-pub use names::STEALTH;
-pub use names::STEALTH_LINE;
-pub use names::STEALTH_SET;
-pub use names::WAITING;
-pub use names::WAYS;
-pub use names::WRITE_BACK;
-pub use names::WRITE_THROUGH;
-pub use numbers::CALL_DEL;
-pub use numbers::CALL_LSWITCH;
-pub use numbers::CALL_NEW;
-pub use numbers::CALL_NONE;
-pub use numbers::CALL_PIN;
-pub use numbers::CALL_UNPIN;
-pub use numbers::CALLS;
-pub use numbers::Call;
-pub use numbers::CallBytes;
-pub use numbers::Guest;
-pub use numbers::Held;
-pub use numbers::Lead;
-pub use numbers::Ma;
-pub use numbers::Pa;
-pub use numbers::PinKind;
-pub use numbers::Va;
-pub use numbers::bytes_of;
-pub use numbers::call_of;
-pub use numbers::held_for;
-pub use numbers::is_empty;
-pub use numbers::lead_in;
-pub use numbers::leads_to;
-pub use numbers::pin_kind_of;
-pub use numbers::pin_number;
-pub use numbers::place;
-pub use start::fresh;
-pub use start::fresh_with;
-pub use values::active;
-pub use values::free_pages;
-pub use values::is_free;
-pub use values::line_value;
-pub use values::lowest_free;
-pub use values::mark_free;
-pub use values::memory;
-pub use values::mode;
-pub use values::policy;
-pub use values::set_active;
-pub use values::set_line_value;
-pub use values::set_memory;
-pub use values::set_mode;
-pub use values::set_policy;
-pub use values::unmark_free;
-pub use values::whole;
+pub use calls::{idle, is_pending, pending, set_pending};
+use layout::Column;
+pub use lines::{
+    history, line_address, line_empty, line_held, line_page, set_history, set_line_address,
+    set_line_held, set_slot_address, set_slot_page, slot_address, slot_empty, slot_page,
+};
+pub use names::{
+    ADDRESSES, CACHEABLE, CALL_A_BOUND, CALL_B_BOUND, FIRST_FREE_PAGE, FIRST_HOST_PAGE,
+    FIRST_RESERVED, GUESTS, HISTORIES, KIND_DATA, KIND_NONE, KIND_TABLE, LINES, MARKS, OWNER_GUEST,
+    OWNER_HOST, OWNER_NONE, PAGES, PHYSICALS, POLICIES, RUNNING, SETS, SIZE, SLOTS, STEALTH,
+    STEALTH_LINE, STEALTH_SET, WAITING, WAYS, WRITE_BACK, WRITE_THROUGH,
+};
+pub use numbers::{
+    CALL_DEL, CALL_LSWITCH, CALL_NEW, CALL_NONE, CALL_PIN, CALL_UNPIN, CALLS, Call, CallBytes,
+    Guest, Held, Ma, Pa, PinKind, Va, held_for, is_empty, lead_in, leads_to, place,
+};
+pub use start::{fresh, fresh_with};
+pub use values::{
+    active, free_pages, is_free, line_value, lowest_free, mark_free, memory, mode, policy,
+    set_active, set_line_value, set_memory, set_mode, set_policy, unmark_free, whole,
+};
 
 pub type Host = [u8; SIZE];
 
@@ -140,32 +56,19 @@ struct Field {
     size: usize,
 }
 
-fn extent(k: usize) -> Field
-    requires { listed k ≡ true }
-    ensures { (result.start ≡ begin sizes k) × (result.size ≡ size sizes k) }
+// Byte i of the field, 0 past its end.
+fn get(h: &Host, c: Column, i: usize) -> u8
+    ensures { result ≡ at (column (number_of c) (view h.now)) i }
 {
-    FIELDS[k]
-}
-
-// Byte i of field k, 0 past its end.
-fn get(h: &Host, k: usize, i: usize) -> u8
-    requires { listed k ≡ true }
-    ensures { result ≡ at (column k (view h.now)) i }
-{
-    let f = extent(k);
-    let start = f.start;
-    let size = f.size;
+    let Field { start, size } = c.extent();
     if i < size { h[start + i] } else { 0 }
 }
 
 // Nothing past its end.
-fn set(h: &mut Host, k: usize, i: usize, v: u8)
-    requires { listed k ≡ true }
-    ensures { view h.new ≡ put k (view h.old) i v }
+fn set(h: &mut Host, c: Column, i: usize, v: u8)
+    ensures { view h.new ≡ put (number_of c) (view h.old) i v }
 {
-    let f = extent(k);
-    let start = f.start;
-    let size = f.size;
+    let Field { start, size } = c.extent();
     if i < size {
         h[start + i] = v;
     }
@@ -173,45 +76,35 @@ fn set(h: &mut Host, k: usize, i: usize, v: u8)
 
 // ---- a page plus one
 
-// To what place i of field k leads, and whether it is empty.
-fn get_lead(h: &Host, k: usize, i: usize) -> Lead
-    requires { listed k ≡ true }
-    ensures { result ≡ lead_of (at (column k (view h.now)) i) }
+// To what place i of the field leads, and whether it is empty.
+fn get_lead(h: &Host, c: Column, i: usize) -> Option<Ma>
+    ensures { result ≡ lead_of (at (column (number_of c) (view h.now)) i) }
 {
-    lead_in(Held(get(h, k, i)))
+    lead_in(Held(get(h, c, i)))
 }
 
-fn get_empty(h: &Host, k: usize, i: usize) -> bool
-    requires { listed k ≡ true }
-    ensures { result ≡ eqb (at (column k (view h.now)) i) 0 }
+fn get_empty(h: &Host, c: Column, i: usize) -> bool
+    ensures { result ≡ eqb (at (column (number_of c) (view h.now)) i) 0 }
 {
-    get(h, k, i) == 0
+    get(h, c, i) == 0
 }
 
-fn set_lead(h: &mut Host, k: usize, i: usize, l: Lead)
-    requires { listed k ≡ true }
-    ensures { view h.new ≡ put k (view h.old) i (held_of l) }
+fn set_lead(h: &mut Host, c: Column, i: usize, l: Option<Ma>)
+    ensures { view h.new ≡ put (number_of c) (view h.old) i (held_of l) }
 {
-    let x = held_for(l);
-    set(h, k, i, x.0)
+    set(h, c, i, held_for(l).0)
 }
 
 // ---- a number and its bound
-
-fn is_listed(k: usize) -> bool
-    ensures { result ≡ listed k }
-{
-    (k < LISTED) & (k != FREE) & (k != ACTIVE) & (k != MODE)
-}
 
 // Whether byte i of field k is below the bound: it is 0 past the end of its field, and where the field is no list of bytes.
 pub fn is_below(h: &Host, k: usize, i: usize, bound: u8) -> bool
     ensures { result ≡ ltb (at (column k (view h.now)) i) bound }
 {
-    if is_listed(k) {
-        return get(h, k, i) < bound;
+    match Column::numbered(k) {
+        Some(c) => get(h, c, i) < bound,
+        None => 0 < bound,
     }
-    0 < bound
 }
 
 // ---- pages
@@ -219,75 +112,80 @@ pub fn is_below(h: &Host, k: usize, i: usize, bound: u8) -> bool
 pub fn owner(h: &Host, p: Ma) -> u8
     ensures { result ≡ at (view h.now).shape.pages.owner p.0 }
 {
-    get(h, OWNER, p.0 as usize)
+    get(h, Column::Owner, p.0 as usize)
 }
 
 pub fn set_owner(h: &mut Host, p: Ma, v: u8)
     ensures { view h.new ≡ put owner_field (view h.old) p.0 v }
 {
-    set(h, OWNER, p.0 as usize, v)
+    set(h, Column::Owner, p.0 as usize, v)
 }
 
 pub fn kind(h: &Host, p: Ma) -> u8
     ensures { result ≡ at (view h.now).shape.pages.kind p.0 }
 {
-    get(h, KIND, p.0 as usize)
+    get(h, Column::Kind, p.0 as usize)
 }
 
 pub fn set_kind(h: &mut Host, p: Ma, v: u8)
     ensures { view h.new ≡ put kind_field (view h.old) p.0 v }
 {
-    set(h, KIND, p.0 as usize, v)
+    set(h, Column::Kind, p.0 as usize, v)
 }
 
 pub fn cacheable(h: &Host, p: Ma) -> u8
     ensures { result ≡ at (view h.now).shape.pages.cacheable p.0 }
 {
-    get(h, MARK, p.0 as usize)
+    get(h, Column::Cacheable, p.0 as usize)
 }
 
 pub fn set_cacheable(h: &mut Host, p: Ma, v: u8)
     ensures { view h.new ≡ put cacheable_field (view h.old) p.0 v }
 {
-    set(h, MARK, p.0 as usize, v)
+    set(h, Column::Cacheable, p.0 as usize, v)
 }
 
 // To what table t leads from address a.
-pub fn entry(h: &Host, t: Ma, a: Va) -> Lead
+pub fn entry(h: &Host, t: Ma, a: Va) -> Option<Ma>
     ensures { result ≡ lead_of (at (view h.now).shape.pages.entry (addresses * t.0 + a.0)) }
 {
-    get_lead(h, ENTRY, ADDRESSES * t.0 as usize + a.0 as usize)
+    get_lead(h, Column::Entry, ADDRESSES * t.0 as usize + a.0 as usize)
 }
 
 pub fn entry_empty(h: &Host, t: Ma, a: Va) -> bool
     ensures { result ≡ eqb (at (view h.now).shape.pages.entry (addresses * t.0 + a.0)) 0 }
 {
-    get_empty(h, ENTRY, ADDRESSES * t.0 as usize + a.0 as usize)
+    get_empty(h, Column::Entry, ADDRESSES * t.0 as usize + a.0 as usize)
 }
 
-pub fn set_entry(h: &mut Host, t: Ma, a: Va, l: Lead)
+pub fn set_entry(h: &mut Host, t: Ma, a: Va, l: Option<Ma>)
     ensures { view h.new ≡ put entry_field (view h.old) (addresses * t.0 + a.0) (held_of l) }
 {
-    set_lead(h, ENTRY, ADDRESSES * t.0 as usize + a.0 as usize, l)
+    set_lead(h, Column::Entry, ADDRESSES * t.0 as usize + a.0 as usize, l)
 }
 
 // To what guest g's physical address a leads.
-pub fn physical(h: &Host, g: Guest, a: Pa) -> Lead
+pub fn physical(h: &Host, g: Guest, a: Pa) -> Option<Ma>
     ensures { result ≡ lead_of (at (view h.now).shape.pages.physical (physicals * g.0 + a.0)) }
 {
-    get_lead(h, PHYSICAL, PHYSICALS * g.0 as usize + a.0 as usize)
+    get_lead(h, Column::Physical, PHYSICALS * g.0 as usize + a.0 as usize)
 }
 
 pub fn physical_empty(h: &Host, g: Guest, a: Pa) -> bool
     ensures { result ≡ eqb (at (view h.now).shape.pages.physical (physicals * g.0 + a.0)) 0 }
 {
-    get_empty(h, PHYSICAL, PHYSICALS * g.0 as usize + a.0 as usize)
+    get_empty(h, Column::Physical, PHYSICALS * g.0 as usize + a.0 as usize)
 }
 
-pub fn set_physical(h: &mut Host, g: Guest, a: Pa, l: Lead)
+pub fn set_physical(h: &mut Host, g: Guest, a: Pa, l: Option<Ma>)
     ensures { view h.new ≡ put physical_field (view h.old) (physicals * g.0 + a.0) (held_of l) }
 {
-    set_lead(h, PHYSICAL, PHYSICALS * g.0 as usize + a.0 as usize, l)
+    set_lead(
+        h,
+        Column::Physical,
+        PHYSICALS * g.0 as usize + a.0 as usize,
+        l,
+    )
 }
 
 // ---- guests
@@ -295,11 +193,11 @@ pub fn set_physical(h: &mut Host, g: Guest, a: Pa, l: Lead)
 pub fn current(h: &Host, g: Guest) -> Pa
     ensures { result.0 ≡ at (view h.now).shape.guests.current g.0 }
 {
-    Pa(get(h, CURRENT, g.0 as usize))
+    Pa(get(h, Column::Current, g.0 as usize))
 }
 
 pub fn set_current(h: &mut Host, g: Guest, a: Pa)
     ensures { view h.new ≡ put current_field (view h.old) g.0 a.0 }
 {
-    set(h, CURRENT, g.0 as usize, a.0)
+    set(h, Column::Current, g.0 as usize, a.0)
 }

@@ -89,28 +89,22 @@ fn fresh_byte(i: usize) -> u8
     later_byte(i)
 }
 
-// Over a part, so that its length is known.
-fn fill(s: &mut [u8])
-    requires { length s.old ≡ bytes }
-    ensures { view s.new ≡ fresh }
-{
-    for i in 0..SIZE {
-        s[i] = fresh_byte(i);
-    }
-}
-
 pub fn fresh(h: &mut Host)
     ensures { view h.new ≡ fresh }
 {
-    fill(h);
+    for (i, byte) in h.iter_mut().enumerate() {
+        *byte = fresh_byte(i);
+    }
 }
 
-fn policy_number(p: WritePolicy) -> u8
-    ensures { result ≡ policy_number p }
-{
-    match p {
-        WritePolicy::Back => WRITE_BACK,
-        WritePolicy::Through => WRITE_THROUGH,
+impl From<WritePolicy> for u8 {
+    ghost from_gives = { λ p n. n ≡ policy_number p };
+
+    fn from(p: WritePolicy) -> u8 {
+        match p {
+            WritePolicy::Back => WRITE_BACK,
+            WritePolicy::Through => WRITE_THROUGH,
+        }
     }
 }
 
@@ -118,5 +112,5 @@ pub fn fresh_with(h: &mut Host, p: WritePolicy)
     ensures { view h.new ≡ fresh_with (policy_number p) }
 {
     fresh(h);
-    set_policy(h, policy_number(p));
+    set_policy(h, u8::from(p));
 }

@@ -1,23 +1,19 @@
--- What opening, loading and saving promise: the answer, and the state or every byte of the buffer at exit. And a buffer with an image's head.
+-- What opening, loading and saving promise: the answer, and the state or every byte of the buffer at exit.
 -- Assumes nothing.
-use Rattle.std.specs.Prelude.{◌≡◌, List, ℕ, ◌<◌, length}
-use Rattle.laws.specs.Choice.{at}
-use Rattle.model.specs.Sizes.{image_head_bytes}
+use Rattle.std.specs.Prelude.{◌≡◌, List, ℕ, Result, Ok, Err}
 use Rattle.model.specs.State.{State}
-use Rattle.model.specs.Image.{image_bytes, head, ImageAnswer, done, not_valid, not_image, opened, loaded, saved}
-use Rattle.image.specs.declared.Answer.{Answer}
-use Rattle.image.specs.declared.Answer.TheVariants.{Done, NotValid, NotImage}
+use Rattle.model.specs.Image.{ImageAnswer, done, not_valid, not_image, opened, loaded, saved}
+use Rattle.numbers.specs.declared.refusal.Refusal.{Refusal}
+use Rattle.numbers.specs.declared.refusal.Refusal.TheVariants.{NotValid, NotImage}
 
--- the model's answer in code, and code's as the model's
+-- what code answers, and the model's answer in code
+abbrev pub Answer : Type 0
+Answer = Result (Unit {0}) Refusal
+
 abbrev pub answer_to : ImageAnswer → Answer
-answer_to done = Done
-answer_to not_valid = NotValid
-answer_to not_image = NotImage
-
-abbrev pub answer_from : Answer → ImageAnswer
-answer_from Done = done
-answer_from NotValid = not_valid
-answer_from NotImage = not_image
+answer_to done = Ok tt
+answer_to not_valid = Err NotValid
+answer_to not_image = Err NotImage
 
 -- the image i opened, or loaded, on the state s: the answer, and the state t after it
 pub record Opens (s : State) (i : List ℕ) (a : Answer) (t : State) : Type 0 where
@@ -32,8 +28,3 @@ pub record Loads (s : State) (i : List ℕ) (a : Answer) (t : State) : Type 0 wh
 pub record Saves (s : State) (b : List ℕ) (a : Answer) (c : List ℕ) : Type 0 where
   pub answer : a ≡ answer_to (saved s b).answer
   pub buffer : c ≡ (saved s b).buffer
-
--- an image begun: the head stands first, and there is room for the fields
-pub record Begun (b : List ℕ) : Type 0 where
-  pub begins : (k : ℕ) → k < image_head_bytes → at b k ≡ at head k
-  pub long : length b ≡ image_bytes

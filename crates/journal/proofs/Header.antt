@@ -1,16 +1,20 @@
--- The header, byte by byte: its mark, its version as a number of 16 bits, and three zeros.
+-- The header, byte by byte, and as a beginning.
 -- Assumes nothing.
-use mathlib.Core.Path.{◌≡◌, sym, subst}
-use mathlib.Core.Bool.{Bool, false, ◌&&◌}
-use mathlib.Core.List.{List}
-use Prim.Native.Nat.{ℕ, zero, suc, ◌+◌, ◌*◌, ◌≤◌, ◌<◌}
+use mathlib.Core.Path.{◌≡◌, sym, ap, ◌∙◌}
+use mathlib.Core.Bool.{Bool, true}
+use mathlib.Core.List.{List, ◌++◌}
+use Prim.Native.Nat.{ℕ, ◌≤◌, ◌<◌}
 use native.Mathlib.Omega.{arith}
 use lib.Dec.{eqb}
-use lib.ListN.{length}
+use lib.ListN.{length, take, drop, length-append, take-append-drop, get_or-append}
+use lib.Seq.{length-take-le, get_or-take}
+use Rattle.std.specs.List.{starts_with}
+use Rattle.std.proofs.lemmas.Slice.Eq.{starts_is, text_from_reads}
+use Rattle.std.proofs.lemmas.Bool.Decides.{Decides-eqb}
 use Rattle.laws.specs.Choice.{at, ◌⇔◌}
-use Rattle.laws.proofs.Tests.{eq⇔, lt⇔, and⇔, not⇔, as⇔, not_so, same_test}
+use Rattle.laws.proofs.Tests.{eq⇔, lt⇔, and⇔, not⇔, as⇔, same_test}
 use Rattle.laws.proofs.Search.{all⇔}
-use Rattle.model.specs.Sizes.{header_bytes, byte_bound}
+use Rattle.model.specs.Sizes.{header_bytes}
 use Rattle.model.specs.Journal.{header, has_header}
 
 module _ (j : List ℕ) where
@@ -23,44 +27,24 @@ module _ (j : List ℕ) where
       and⇔ (as⇔ (not⇔ (lt⇔ (length j) header_bytes)) (λ n. omega arith) (λ h k. omega arith))
       (all⇔ header_bytes (λ i h. eq⇔ (at j i) (at header i)))
 
-  pub too_short : length j < header_bytes → false ≡ has_header j
-  too_short h = sym (not_so header⇔ (λ t. let k = t.0 in omega arith))
+  pub long_enough : has_header j ≡ true → header_bytes ≤ length j
+  long_enough t = (header⇔.0 t).0
 
--- the bytes one by one
-module _ (j : List ℕ) (m : Bool) (v : ℕ) where
-  abbrev Mark : Type 0
-  Mark = ((at j 0 ≡ at header 0) × (at j 1 ≡ at header 1)) × (at j 2 ≡ at header 2)
+  -- as code asks
+  pub starts_with_header : {r : Bool} → r ≡ starts_with eqb j header → r ≡ has_header j
+  starts_with_header {r} e =
+      let d = starts_is Decides-eqb j header r e in
+      same_test {b = r} {P = j ≡ header ++ drop header_bytes j} (d.0, λ q. d.1 (drop header_bytes j) q) header⇔ there begins
+    where
+      there : j ≡ header ++ drop header_bytes j → There
+      there q =
+          (omega (arith, ap length q, length-append header (drop header_bytes j)), λ i h. ap (λ (l : List ℕ). at l i) q ∙ get_or-append header (drop header_bytes j) 0 i h)
 
-  abbrev Bytewise : Type 0
-  Bytewise = (((Mark × (v ≡ 1)) × (at j 5 ≡ 0)) × (at j 6 ≡ 0)) × (at j 7 ≡ 0)
-
-  bytewise⇔ : m ≡ (eqb (at j 0) (at header 0) && eqb (at j 1) (at header 1) && eqb (at j 2) (at header 2))
-      → (m && eqb v 1 && eqb (at j 5) 0 && eqb (at j 6) 0 && eqb (at j 7) 0) ⇔ Bytewise
-  bytewise⇔ e =
-      let k : m ⇔ Mark =
-      subst (λ (b : Bool). b ⇔ Mark) (sym e)
-      (and⇔ (and⇔ (eq⇔ (at j 0) (at header 0)) (eq⇔ (at j 1) (at header 1))) (eq⇔ (at j 2) (at header 2))) in
-      and⇔ (and⇔ (and⇔ (and⇔ k (eq⇔ v 1)) (eq⇔ (at j 5) 0)) (eq⇔ (at j 6) 0)) (eq⇔ (at j 7) 0)
-
-  module _ (w : (v ≡ at j 3 + byte_bound * at j 4) × (at j 3 < byte_bound) × (at j 4 < byte_bound)) where
-    all_eight : Bytewise → (i : ℕ) → i < header_bytes → at j i ≡ at header i
-    all_eight b zero h = b.0.0.0.0.0.0
-    all_eight b (suc zero) h = b.0.0.0.0.0.1
-    all_eight b (suc (suc zero)) h = b.0.0.0.0.1
-    all_eight b (suc (suc (suc zero))) h = omega (arith, w.0, b.0.0.0.1)
-    all_eight b (suc (suc (suc (suc zero)))) h = omega (arith, w.0, b.0.0.0.1)
-    all_eight b (suc (suc (suc (suc (suc zero))))) h = b.0.0.1
-    all_eight b (suc (suc (suc (suc (suc (suc zero)))))) h = b.0.1
-    all_eight b (suc (suc (suc (suc (suc (suc (suc zero))))))) h = b.1
-    all_eight b (suc (suc (suc (suc (suc (suc (suc (suc i)))))))) h = absurd (omega arith)
-
-    of_eight : ((i : ℕ) → i < header_bytes → at j i ≡ at header i) → Bytewise
-    of_eight f =
-        let a : at j 3 ≡ 1 = f 3 (omega arith) in
-        let b : at j 4 ≡ 0 = f 4 (omega arith) in
-        ((((((f 0 (omega arith), f 1 (omega arith)), f 2 (omega arith)), omega (arith, w.0)), f 5 (omega arith)), f 6 (omega arith)), f 7 (omega arith))
-
-    pub header_is : header_bytes ≤ length j
-        → m ≡ (eqb (at j 0) (at header 0) && eqb (at j 1) (at header 1) && eqb (at j 2) (at header 2))
-        → (m && eqb v 1 && eqb (at j 5) 0 && eqb (at j 6) 0 && eqb (at j 7) 0) ≡ has_header j
-    header_is h e = same_test (bytewise⇔ e) (header⇔ j) (λ b. (h, all_eight b)) (λ t. of_eight t.1)
+      begins : There → j ≡ header ++ drop header_bytes j
+      begins t =
+          let first : (i : ℕ) → i < header_bytes → at (take header_bytes j) i ≡ at header i =
+          λ i h. get_or-take header_bytes j i 0 h ∙ t.1 i h in
+          let e : take header_bytes j ≡ header =
+          text_from_reads (take header_bytes j) header (length-take-le header_bytes j t.0)
+          (first 0 (omega arith), (first 1 (omega arith), (first 2 (omega arith), (first 3 (omega arith), (first 4 (omega arith), (first 5 (omega arith), (first 6 (omega arith), (first 7 (omega arith), tt)))))))) in
+          sym (take-append-drop header_bytes j) ∙ ap (λ (l : List ℕ). l ++ drop header_bytes j) e

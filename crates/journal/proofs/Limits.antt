@@ -1,21 +1,13 @@
 -- The refusals of a journal's form, one after another.
 -- Assumes nothing.
-use mathlib.Core.Path.{◌≡◌, refl, sym}
-use mathlib.Core.Bool.{Bool, true, false, not}
+use mathlib.Core.Path.{◌≡◌}
+use mathlib.Core.Bool.{Bool, true, false}
 use Prim.Native.Nat.{ℕ, ◌*◌, ◌≤◌, ◌<◌}
 use native.Mathlib.Omega.{arith}
 use lib.Dec.{ltb}
-use Rattle.laws.proofs.Tests.{false⇔, lt⇔, not_so}
+use Rattle.laws.proofs.Tests.{lt⇔, not_so}
 use Rattle.model.specs.Sizes.{record_limit, answer_bytes}
 use Rattle.model.specs.Journal.{whole_records, form_refusal}
-
--- a test that was asked the other way round
-pub is_not : (t : Bool) → not t ≡ true → t ≡ false
-is_not t e = (false⇔ t).0 e
-
-pub is_so : (t : Bool) → not t ≡ false → t ≡ true
-is_so true e = refl
-is_so false e = sym e
 
 module _ (t : Bool) (n m : ℕ) where
   pub no_journal : t ≡ false → 13 ≡ form_refusal t n m

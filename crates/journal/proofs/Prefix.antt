@@ -14,17 +14,18 @@ use Rattle.model.specs.State.{State}
 use Rattle.model.specs.Valid.{valid?}
 use Rattle.model.specs.Step.{Answer, step}
 use Rattle.model.specs.Run.{Ran, run}
-use Rattle.model.specs.Journal.{taken, record_at, records_of, has_header, written, journal_refusal, ran, reported, played, journal, After}
+use Rattle.model.specs.Journal.{taken, record_at, records_of, has_header, written, journal_refusal, Verdict, ran, report_of, reported, played, journal, After}
+use Rattle.model.specs.Journal as model
 use Rattle.model.proofs.Run.{and_then, run_append, run_length}
 use Rattle.model.proofs.Journal.{either, written_more, length_written}
 use Rattle.journal.specs.declared.Report.{Report}
-use Rattle.journal.specs.declared.Verdict.{Verdict}
-use Rattle.journal.specs.declared.Verdict.TheVariants.{Done}
-use Rattle.journal.specs.Promises.{verdict_to, Runs}
+use Rattle.std.specs.Prelude.{Result, Ok}
+use Rattle.numbers.specs.declared.refusal.Refusal.{Refusal}
+use Rattle.journal.specs.Promises.{report_from, Runs}
 use Rattle.journal.proofs.Header.{header⇔}
 use Rattle.journal.proofs.Limits.{fits}
 use Rattle.journal.proofs.Reports.{form, form_header, form_fits, no_refusal, played_journal}
-use Rattle.journal.proofs.Answers.{report_in}
+use Rattle.journal.proofs.Answers.{report_in, report_of_law}
 
 -- ---- lists
 
@@ -135,10 +136,10 @@ module _ (j b : List ℕ) (k : ℕ) (e : form j b ≡ 0) (h : k ≤ taken j) whe
 -- ---- at exit
 
 -- after a journal that was run: of its first k records alone, the same answers, so many taken, and the state from which the others went on
-module _ (s : State) (j b : List ℕ) {r : Report} {t : State} {c : List ℕ} (p : Runs s j b (Done r) t c) where
+module _ (s : State) (j b : List ℕ) {r : Report} {t : State} {c : List ℕ} (p : Runs s j b (Ok r) t c) where
   was_run : journal_refusal s j b ≡ 0
   was_run =
-      either (λ (a : After). Done r ≡ verdict_to a.verdict → journal_refusal s j b ≡ 0) s j b (λ q f. q)
+      either (λ (a : After). ran (report_from r) ≡ a.verdict → journal_refusal s j b ≡ 0) s j b (λ q f. q)
       (λ q f. let z : ◌≡◌ {A = ℕ} 0 1 = cc f in absurd (omega arith)) p.verdict
 
   pub run_valid : valid? s ≡ true
@@ -148,10 +149,9 @@ module _ (s : State) (j b : List ℕ) {r : Report} {t : State} {c : List ℕ} (p
   run_form = (no_refusal s j b was_run).1
 
   pub all_taken_law : r.taken ≡ taken j
-  all_taken_law =
-      ap (λ (v : Verdict). (report_in v).taken) (p.verdict ∙ ap (λ (a : After). verdict_to a.verdict) (played_journal s j b run_valid run_form))
+  all_taken_law = ap (λ (v : Verdict). (report_of v).taken) (p.verdict ∙ ap (λ (a : After). a.verdict) (played_journal s j b run_valid run_form))
 
-  module _ (k : ℕ) (h : k ≤ r.taken) {v : Verdict} {u : State} {d : List ℕ} (q : Runs s (first_of k j) b v u d) where
+  module _ (k : ℕ) (h : k ≤ r.taken) {v : Result Report Refusal} {u : State} {d : List ℕ} (q : Runs s (first_of k j) b v u d) where
     up_to : k ≤ taken j
     up_to = omega (arith, all_taken_law)
 
@@ -167,5 +167,6 @@ module _ (s : State) (j b : List ℕ) {r : Report} {t : State} {c : List ℕ} (p
 
     pub first_taken : (report_in v).taken ≡ k
     first_taken =
-        ap (λ (x : Verdict). (report_in x).taken) (q.verdict ∙ ap verdict_to (part_verdict j b k run_form up_to s run_valid))
+        ap (λ (x : model.Report). x.taken) (report_of_law v)
+        ∙ ap (λ (x : Verdict). (report_of x).taken) (q.verdict ∙ part_verdict j b k run_form up_to s run_valid)
         ∙ cut_taken j b k run_form up_to

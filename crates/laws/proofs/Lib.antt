@@ -9,3 +9,4 @@ pub mod Bits
 pub mod Loops
 pub mod Answers
 pub mod Cut
+pub mod Chains

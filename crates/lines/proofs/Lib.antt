@@ -1,2 +1,1 @@
 pub mod Stealth
-pub mod Policy

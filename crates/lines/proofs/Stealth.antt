@@ -1,7 +1,7 @@
 -- Rule 9 is its tests of set 7.
 -- Assumes nothing.
 use mathlib.Core.Path.{◌≡◌, sym, ap, ◌∙◌}
-use mathlib.Core.Bool.{Bool, true, false, ◌&&◌}
+use mathlib.Core.Bool.{Bool, true, ◌&&◌}
 use Prim.Native.Nat.{ℕ, ◌<◌}
 use native.Mathlib.Omega.{arith}
 use lib.Dec.{eqb}
@@ -10,8 +10,8 @@ use Rattle.laws.specs.Choice.{pick, at}
 use Rattle.laws.specs.Search.{all_below}
 use Rattle.laws.proofs.Cases.{split, same?}
 use Rattle.laws.proofs.Loops.{all_made, all_fails}
-use Rattle.model.specs.Sizes.{pages, ways, stealth, stealth_set}
-use Rattle.model.specs.State.{State, is_page, table, line_at, stealth_line}
+use Rattle.model.specs.Sizes.{pages, ways, stealth}
+use Rattle.model.specs.State.{State, is_page, table, stealth_line}
 use Rattle.model.specs.RuleTests.{stealth_page, rule9_at_way, rule9_at_history, rule9?}
 use Rattle.lines.specs.Lines.{first_way}
 use Rattle.numbers.proofs.Leads.{leads_at_law}
@@ -36,12 +36,6 @@ way_first s =
     split (is_page p)
     (λ e. ap (λ (b : Bool). pick (is_page p) (b && x) (eqb (l stealth_line) 0)) (leads_at_law (l stealth_line) p (ltb-true p pages e)))
     (λ e. rw e)
-
--- the others
-pub way_later : (s : State) (w : ℕ) → eqb w 0 ≡ false
-    → eqb (at s.shape.cache.line_page (line_at stealth_set w)) 0
-    ≡ rule9_at_way s.shape.pages.entry s.shape.cache.line_address s.shape.cache.line_page (table s.shape) w
-way_later s w e = rw e
 
 pub rule9_is : (s : State)
     → (rule9_at_way s.shape.pages.entry s.shape.cache.line_address s.shape.cache.line_page (table s.shape) 0

@@ -34,10 +34,7 @@ first_way s p =
     pick (is_page p) (leads_at (lead_of (at s.shape.cache.line_page stealth_line)) p && eqb (at s.shape.cache.line_address stealth_line) stealth)
     (eqb (at s.shape.cache.line_page stealth_line) 0)
 
--- 11, at line i of page p; and at line i
-unfoldable pub through_by : State → ℕ → ℕ → Bool
-through_by s i p = is_through s.shape ⇒ eqb (at s.values.line i) (at s.values.memory p)
-
+-- 11, at line i
 unfoldable pub through : State → ℕ → Bool
 through s i =
     is_through s.shape && is_page (lead (at s.shape.cache.line_page i))

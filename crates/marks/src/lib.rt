@@ -8,6 +8,7 @@ ghost use Rattle.laws.specs.Bits.{marks, marked, unmarked};
 ghost use Rattle.model.specs.Sizes.{pages};
 ghost use Rattle.model.specs.State.{is_page};
 ghost use Rattle.model.specs.Checks.{lowest_free};
+ghost use Rattle.numbers.specs.Lead.{toward};
 
 use numbers::{Ma, PAGES};
 
@@ -50,18 +51,19 @@ pub fn without_mark(m: u64, p: Ma) -> u64
 fn lowest_digit(m: u64) -> u32
     ensures { result ≡ lowest_free m }
 {
-    u64::trailing_zeros(m)
+    m.trailing_zeros()
 }
 
-// The lowest page that is marked, or the number past the last.
-pub fn lowest(m: u64) -> Ma
-    ensures { result.0 ≡ lowest_free m }
+// The lowest page that is marked, if one is.
+pub fn lowest(m: u64) -> Option<Ma>
+    ensures { result ≡ toward (lowest_free m) }
 {
-    Ma(lowest_digit(m) as u8)
+    let page = lowest_digit(m) as u8;
+    (page < PAGES).then_some(Ma(page))
 }
 
 pub fn count(m: u64) -> u32
     ensures { result ≡ count_below pages (marks m) }
 {
-    u64::count_ones(m)
+    m.count_ones()
 }

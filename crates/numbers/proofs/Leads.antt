@@ -12,34 +12,34 @@ use Rattle.model.specs.Sizes.{pages}
 use Rattle.model.specs.State.{lead, nowhere, is_page}
 use Rattle.model.proofs.RuleTests.{lead_page, lead_past}
 use Rattle.numbers.specs.declared.Ma.{Ma}
-use Rattle.numbers.specs.declared.Lead.{Lead}
-use Rattle.numbers.specs.declared.Lead.TheVariants.{To, Nowhere}
+use Rattle.std.specs.Prelude.{Option}
+use Rattle.std.specs.Prelude.{Some, None}
 use Rattle.numbers.specs.Lead.{ma, toward, lead_of, held_of, place_of, leads_at}
 
-pub toward_page : (p : ℕ) → p < pages → toward p ≡ To (ma p)
+pub toward_page : (p : ℕ) → p < pages → toward p ≡ Some (ma p)
 toward_page p h = rw (lt-ltb p pages h)
 
-pub toward_none : (p : ℕ) → pages ≤ p → toward p ≡ Nowhere
+pub toward_none : (p : ℕ) → pages ≤ p → toward p ≡ None
 toward_none p h = rw (le-ltb p pages h)
 
-pub leads_none : (e : ℕ) → e ≡ 0 → Nowhere ≡ lead_of e
+pub leads_none : (e : ℕ) → e ≡ 0 → None ≡ lead_of e
 leads_none e q = sym (ap lead_of q)
 
-pub leads_page : (e : ℕ) → 0 < e → e ≤ pages → To (ma (e - 1)) ≡ lead_of e
+pub leads_page : (e : ℕ) → 0 < e → e ≤ pages → Some (ma (e - 1)) ≡ lead_of e
 leads_page e h l =
     let q : e ≡ suc (e - 1) = omega arith in
     sym (ap lead_of q ∙ ap toward (lead_page (e - 1) (omega arith)) ∙ toward_page (e - 1) (omega arith))
 
-pub leads_past : (e : ℕ) → pages < e → Nowhere ≡ lead_of e
+pub leads_past : (e : ℕ) → pages < e → None ≡ lead_of e
 leads_past e h =
     let q : e ≡ suc (e - 1) = omega arith in
     sym (ap lead_of q ∙ ap toward (lead_past (e - 1) (omega arith)) ∙ toward_none pages (omega arith))
 
 -- what is stored for a lead
-pub holds_page : (l : Lead) (p : Ma) → l ≡ To p → p.0 < pages → p.0 + 1 ≡ held_of l
+pub holds_page : (l : Option Ma) (p : Ma) → l ≡ Some p → p.0 < pages → p.0 + 1 ≡ held_of l
 holds_page l p e h = add-one p.0 ∙ sym (ap held_of e ∙ rw (lt-ltb p.0 pages h))
 
-pub holds_none : (l : Lead) (p : Ma) → l ≡ To p → pages ≤ p.0 → 0 ≡ held_of l
+pub holds_none : (l : Option Ma) (p : Ma) → l ≡ Some p → pages ≤ p.0 → 0 ≡ held_of l
 holds_none l p e h = sym (ap held_of e ∙ rw (le-ltb p.0 pages h))
 
 -- ---- as the model's number

@@ -1,6 +1,6 @@
 // Calls: which call three bytes are, and the bytes of a call.
 ghost use Rattle.std.specs.Prelude.{◌≡◌};
-ghost use Rattle.numbers.specs.Calls.{pin_kind_of, pin_number, bytes_of, same_bytes, call_named, call_of};
+ghost use Rattle.numbers.specs.Calls.{pin_kind_of, pin_number, bytes_of, call_named, call_of};
 
 use super::{Pa, Va};
 
@@ -20,14 +20,14 @@ pub const CALL_UNPIN: u8 = 5;
 pub const CALLS: u8 = 6;
 
 // What a pin makes of the page.
-#[derive(Clone, Copy)]
+#[derive(Clone, Copy, PartialEq, Eq)]
 pub enum PinKind {
     Data,
     Table,
 }
 
 // A call with the arguments of its action; or bytes that are none.
-#[derive(Clone, Copy)]
+#[derive(Clone, Copy, PartialEq, Eq)]
 pub enum Call {
     None,
     New(Va, Pa),
@@ -39,7 +39,7 @@ pub enum Call {
 }
 
 // A call as it is stored, and as a record has it: its number and its arguments, unused ones zero.
-#[derive(Clone, Copy)]
+#[derive(Clone, Copy, PartialEq, Eq)]
 pub struct CallBytes {
     pub number: u8,
     pub a: u8,
@@ -49,62 +49,42 @@ pub struct CallBytes {
 // ---- a pin's kind
 
 // 0 data, any other table.
-pub fn pin_kind_of(k: u8) -> PinKind
-    ensures { result ≡ pin_kind_of k }
-{
-    if k == 0 {
-        PinKind::Data
-    } else {
-        PinKind::Table
+impl From<u8> for PinKind {
+    ghost from_gives = { λ n k. k ≡ pin_kind_of n };
+
+    fn from(n: u8) -> PinKind {
+        if n == 0 {
+            PinKind::Data
+        } else {
+            PinKind::Table
+        }
     }
 }
 
-pub fn pin_number(k: PinKind) -> u8
-    ensures { result ≡ pin_number k }
-{
-    match k {
-        PinKind::Data => 0,
-        PinKind::Table => 1,
+impl From<PinKind> for u8 {
+    ghost from_gives = { λ k n. n ≡ pin_number k };
+
+    fn from(k: PinKind) -> u8 {
+        k as u8
     }
 }
 
 // ---- a call
 
-pub fn bytes_of(x: Call) -> CallBytes
-    ensures { result ≡ bytes_of x }
-{
-    match x {
-        Call::None => CallBytes {
-            number: CALL_NONE,
-            a: 0,
-            b: 0,
-        },
-        Call::New(v, p) => CallBytes {
-            number: CALL_NEW,
-            a: v.0,
-            b: p.0,
-        },
-        Call::Del(v) => CallBytes {
-            number: CALL_DEL,
-            a: v.0,
-            b: 0,
-        },
-        Call::Lswitch(p) => CallBytes {
-            number: CALL_LSWITCH,
-            a: p.0,
-            b: 0,
-        },
-        Call::Pin(p, k) => CallBytes {
-            number: CALL_PIN,
-            a: p.0,
-            b: pin_number(k),
-        },
-        Call::Unpin(p) => CallBytes {
-            number: CALL_UNPIN,
-            a: p.0,
-            b: 0,
-        },
-        Call::Other(number, a, b) => CallBytes { number, a, b },
+impl From<Call> for CallBytes {
+    ghost from_gives = { λ x n. n ≡ bytes_of x };
+
+    fn from(x: Call) -> CallBytes {
+        let (number, a, b) = match x {
+            Call::None => (CALL_NONE, 0, 0),
+            Call::New(v, p) => (CALL_NEW, v.0, p.0),
+            Call::Del(v) => (CALL_DEL, v.0, 0),
+            Call::Lswitch(p) => (CALL_LSWITCH, p.0, 0),
+            Call::Pin(p, k) => (CALL_PIN, p.0, u8::from(k)),
+            Call::Unpin(p) => (CALL_UNPIN, p.0, 0),
+            Call::Other(number, a, b) => (number, a, b),
+        };
+        CallBytes { number, a, b }
     }
 }
 
@@ -116,26 +96,22 @@ fn named(c: u8, a: u8, b: u8) -> Call
         CALL_NEW => Call::New(Va(a), Pa(b)),
         CALL_DEL => Call::Del(Va(a)),
         CALL_LSWITCH => Call::Lswitch(Pa(a)),
-        CALL_PIN => Call::Pin(Pa(a), pin_kind_of(b)),
+        CALL_PIN => Call::Pin(Pa(a), PinKind::from(b)),
         CALL_UNPIN => Call::Unpin(Pa(a)),
         _ => Call::None,
     }
 }
 
-pub fn same(x: CallBytes, y: CallBytes) -> bool
-    ensures { result ≡ same_bytes x y }
-{
-    (x.number == y.number) & (x.a == y.a) & (x.b == y.b)
-}
-
 // The call whose bytes these are.
-pub fn call_of(n: CallBytes) -> Call
-    ensures { result ≡ call_of n.number n.a n.b }
-{
-    let x = named(n.number, n.a, n.b);
-    if same(bytes_of(x), n) {
-        x
-    } else {
-        Call::Other(n.number, n.a, n.b)
+impl From<CallBytes> for Call {
+    ghost from_gives = { λ n x. x ≡ call_of n.number n.a n.b };
+
+    fn from(n: CallBytes) -> Call {
+        let x = named(n.number, n.a, n.b);
+        if CallBytes::from(x) == n {
+            x
+        } else {
+            Call::Other(n.number, n.a, n.b)
+        }
     }
 }

@@ -24,10 +24,10 @@ lines_from_start (suc n) b h =
 -- ---- answers behind others
 
 module _ (x y : List ℕ) where
-  at_front : (i : ℕ) → i < length x → at (x ++ y) i ≡ at x i
+  pub at_front : (i : ℕ) → i < length x → at (x ++ y) i ≡ at x i
   at_front i h = get_or-append x y 0 i h
 
-  at_behind : (i j : ℕ) → j ≡ length x + i → at (x ++ y) j ≡ at y i
+  pub at_behind : (i j : ℕ) → j ≡ length x + i → at (x ++ y) j ≡ at y i
   at_behind i j e = ap (at (x ++ y)) e ∙ get_or-append-add x y i 0
 
   word_front : (i : ℕ) → i + answer_value_at ≤ length x → word_at (x ++ y) i ≡ word_at x i
@@ -46,7 +46,7 @@ module _ (x y : List ℕ) where
       let d = at_behind (i + 3) (j + 3) (omega arith) in
       omega arith
 
-  lines_front : (k n : ℕ) → answer_bytes * n ≤ length x → record_lines_from k n (x ++ y) ≡ record_lines_from k n x
+  pub lines_front : (k n : ℕ) → answer_bytes * n ≤ length x → record_lines_from k n (x ++ y) ≡ record_lines_from k n x
   unfolding record_lines_from
   lines_front k zero h = refl
   lines_front k (suc n) h =

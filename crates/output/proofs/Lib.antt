@@ -1,4 +1,3 @@
-pub mod Lines
 pub mod Room
 pub mod Answers
 pub mod Long
@@ -7,3 +6,4 @@ pub mod Calls
 pub mod Streaming
 pub mod WholeCalls
 pub mod Joined
+pub mod Chunks

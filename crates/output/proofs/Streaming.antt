@@ -1,7 +1,9 @@
 -- A call of feed has room for the answers of its records; what is typed of it is what the model prints; and it takes some of its piece, and no more.
 -- Assumes nothing.
-use Rattle.std.proofs.Common.{◌≡◌, ℕ, ◌+◌, ◌-◌, ◌*◌, ◌/◌, ◌<◌, ◌≤◌, Bool, true, ◌&&◌, eqb, ltb, ◌≢◌, List, length, take, drop, sym, ap, ◌∙◌, arith, length-append, length-drop, length-take, ne_eqb}
-use Rattle.laws.proofs.Cases.{split, below?, pick_both, pick_not}
+use Rattle.std.proofs.Common.{◌≡◌, ℕ, ◌+◌, ◌-◌, ◌*◌, ◌/◌, ◌<◌, ◌≤◌, Bool, true, ◌&&◌, eqb, ltb, ◌≢◌, List, length, take, drop, sym, ap, ◌∙◌, arith, length-append, length-drop, length-take, eq-eqb, ne_eqb}
+use Rattle.std.specs.List.{concat}
+use Rattle.std.specs.Simd.{first_chunks}
+use Rattle.laws.proofs.Cases.{split, below?, pick_both, pick_yes, pick_not}
 use Rattle.laws.proofs.Lists.{length_list_of}
 use Rattle.laws.proofs.Tests.{lt⇔, le⇔, and⇔, true⇔, fails}
 use Rattle.model.specs.Sizes.{header_bytes, record_bytes, answer_bytes, begun_most, count_bytes}
@@ -17,9 +19,13 @@ use Rattle.print.specs.Text.{page, typed_all}
 use Rattle.print.proofs.Typing.{typed_inside}
 use Rattle.output.specs.declared.stream.Told.{Told}
 use Rattle.output.specs.declared.stream.Streamed.{Streamed}
-use Rattle.output.specs.Output.{ran_status, refused_status}
-use Rattle.output.specs.Stream.{call_lines, call_status, call_told, piece_lines}
-use Rattle.output.specs.Promises.{Tells, fed, Streams}
+use Rattle.output.specs.Output.{refused_line, ran_status, refused_status}
+use Rattle.output.specs.Stream.{told_after, ran_lines, call_status, piece_lines}
+use Rattle.output.proofs.Chunks.{of_first}
+use Rattle.output.specs.Promises.{fed, Streams}
+use Rattle.print.specs.Status.{digit_of}
+use Rattle.print.specs.declared.status.Status.{Status}
+use Rattle.print.specs.declared.status.Status.TheVariants.{Passed}
 
 -- ---- a piece
 
@@ -93,20 +99,49 @@ module _ (s : State) (k piece : List ℕ) (last : Bool) (b : List ℕ) where
       (λ j. omega (arith, refusal_valid s k piece allowed last b v, no_journal k piece allowed last (length b) j)))
       (λ v. omega (arith, refusal_invalid s k piece allowed last b v))
 
-  pub streams : (t : Told) (d : List ℕ) {f : Fed} {u : State} {l c e : List ℕ} {r : Streamed} {short ended : Bool} → Feeds s k piece allowed last b f u l c
-      → short ≡ ltb (header_count k) header_bytes → ended ≡ (last && eqb f.bytes (length piece)) → Tells short ended t f l c d r e
-      → Streams s k t piece last b d r u l c e
-  streams t d w x y v =
-      let z = y ∙ ap (λ (g : Fed). last && eqb g.bytes (length piece)) w.answer in
-      record {
-        state = w.state;
-        kept = w.kept;
-        answers = w.buffer;
-        output = v.output ∙ (λ i. typed_all (page d 0) (call_lines (x i) (z i) t (w.answer i) (w.kept i) (w.buffer i)));
-        status = v.status ∙ ap call_status w.answer;
-        taken = v.taken ∙ ap (λ (g : Fed). g.bytes) w.answer;
-        told = v.told ∙ (λ i. call_told t (w.answer i) (w.buffer i));
-      }
+  -- what a call tells, by what was typed of it
+  module _ (t : Told) (d : List ℕ) {f : Fed} {u : State} {l c e : List ℕ} {n : ℕ} (w : Feeds s k piece allowed last b f u l c) where
+    pub streams_ran : {xs : List (List ℕ)} {v : Told} {short : Bool} → f.number ≡ 0 → short ≡ ltb (header_count k) header_bytes
+        → xs ≡ first_chunks answer_bytes f.records c
+        → page e n ≡ typed_all (page d 0) (ran_lines short (last && eqb f.bytes (length piece)) t (length xs) l (concat xs))
+        → v ≡ told_after t (length xs) (concat xs)
+        → Streams s k t piece last b d (record { bytes = n; status = Passed; taken = f.bytes; told = v }) u l c e
+    streams_ran {short = short} z x y p q =
+        let a = fed s k piece last b in
+        let g : a.fed.number ≡ 0 = sym (ap (λ (h : Fed). h.number) w.answer) ∙ z in
+        let m = eq-eqb a.fed.number 0 g in
+        let o = of_first short (last && eqb f.bytes (length piece)) t f.records l c (room_for_lines w) y in
+        record {
+          state = w.state;
+          kept = w.kept;
+          answers = w.buffer;
+          output =
+              p
+              ∙ ap (typed_all (page d 0)) o.0
+              ∙ (λ i. typed_all (page d 0) (ran_lines (x i) (last && eqb (w.answer i).bytes (length piece)) t (w.answer i).records (w.kept i) (w.buffer i)))
+              ∙ ap (typed_all (page d 0)) (sym (pick_yes _ (refused_line a.fed.number) m));
+          status = sym (pick_yes ran_status refused_status m);
+          taken = ap (λ (h : Fed). h.bytes) w.answer;
+          told = q ∙ o.1 ∙ (λ i. told_after t (w.answer i).records (w.buffer i)) ∙ sym (pick_yes _ t m);
+        }
+
+    pub streams_refused : {v : Status} → f.number ≢ 0 → page e n ≡ typed_all (page d 0) (refused_line f.number) → digit_of v ≡ refused_status
+        → Streams s k t piece last b d (record { bytes = n; status = v; taken = f.bytes; told = t }) u l c e
+    streams_refused z p q =
+        let a = fed s k piece last b in
+        let m = ne_eqb a.fed.number 0 (λ g. z (ap (λ (h : Fed). h.number) w.answer ∙ g)) in
+        record {
+          state = w.state;
+          kept = w.kept;
+          answers = w.buffer;
+          output =
+              p
+              ∙ (λ i. typed_all (page d 0) (refused_line (w.answer i).number))
+              ∙ ap (typed_all (page d 0)) (sym (pick_not _ (refused_line a.fed.number) m));
+          status = q ∙ sym (pick_not ran_status refused_status m);
+          taken = ap (λ (h : Fed). h.bytes) w.answer;
+          told = sym (pick_not _ t m);
+        }
 
   -- ---- what it promises
 
@@ -121,7 +156,7 @@ module _ (s : State) (k piece : List ℕ) (last : Bool) (b : List ℕ) where
         omega (arith, w.taken)
 
     -- where a record fits the answer buffer, a call that is not refused takes some of a piece
-    pub taken_some : r.status ≡ ran_status → answer_bytes ≤ length b → 0 < length piece → 0 < r.taken
+    pub taken_some : digit_of r.status ≡ ran_status → answer_bytes ≤ length b → 0 < length piece → 0 < r.taken
     taken_some z p q =
         let m =
         either s k piece allowed last b (λ (a : AfterCall). call_status a.fed ≡ ran_status → 0 < a.fed.bytes)

@@ -15,7 +15,7 @@ use Rattle.print.specs.Text.{decimal_of}
 use Rattle.print.proofs.Typing.{whole_text}
 use Rattle.print.proofs.Decimal.{length_decimal}
 use Rattle.output.specs.Output.{title_line, refused_word, done_word, cut_word, number_then, space, line_end, record_line, record_lines, refused_line, cut_line, done_line, report_lines, printed, load_lines}
-use Rattle.output.specs.declared.Printed.{Printed}
+use Rattle.print.specs.declared.status.Printed.{Printed}
 use Rattle.output.specs.Promises.{Prints, PrintsLoad}
 use Rattle.output.proofs.Room.{form_passes}
 

@@ -3,146 +3,139 @@
 
 mod stream; // stream.rt: a journal that arrives in pieces
 
-ghost use Rattle.std.specs.Prelude.{◌≡◌, ◌+◌, ◌*◌, ◌<◌, ◌≤◌, length};
-ghost use Rattle.model.specs.Sizes.{byte_bound, answer_bytes};
+ghost use Rattle.std.specs.Prelude.{◌≡◌, ◌*◌, ◌≤◌, ◌==◌, [], length};
+ghost use Rattle.std.specs.List.{concat};
+ghost use Rattle.std.specs.Simd.{first_chunks};
+ghost use Rattle.laws.specs.Choice.{pick, at};
+ghost use Rattle.model.specs.Sizes.{answer_bytes, answer_value_at};
 ghost use Rattle.model.specs.Records.{word_at};
-ghost use Rattle.print.specs.Text.{page, typed_all};
-ghost use Rattle.output.specs.Output.{number_then, record_line, record_lines, refused_line, cut_line, done_line, report_lines, lines_of, status_of};
+ghost use Rattle.print.specs.Pages.{typed_all_on};
+ghost use Rattle.print.specs.Status.{digit_of};
+ghost use Rattle.output.specs.Output.{number_then, record_line, refused_line, cut_line, done_line, report_lines, lines_of, ran_status, refused_status, status_of};
+ghost use Rattle.numbers.specs.Refusals.{refusal_number, code_of};
+ghost use Rattle.output.specs.Stream.{record_lines_from};
 ghost use Rattle.host.specs.View.{view};
 ghost use Rattle.journal.specs.Promises.{report_from, verdict_from};
 ghost use Rattle.output.specs.Promises.{taken_in, Prints, PrintsLoad};
 
 use host::Host;
-use journal::{Report, Verdict};
+use journal::Report;
+use numbers::Refusal;
+use print::{Page, Printed, Status};
 pub use stream::{Streamed, Told, feed};
-
-// How many bytes were typed, and the status with which a program that prints them ends, as a digit.
-#[derive(Clone, Copy)]
-pub struct Printed {
-    pub bytes: usize,
-    pub status: u8,
-}
-
-// nothing was refused
-pub const RAN: u8 = b'0';
-
-const TURNED_AWAY: u8 = b'1';
 
 const ANSWER: usize = steps::ANSWER;
 
-const ANSWER_VALUE: usize = steps::ANSWER_VALUE;
+const VALUE: usize = steps::ANSWER_VALUE;
 
 const SPACE: u8 = b' ';
 
 const LINE_END: u8 = b'\n';
 
-// A byte of a value, and that it is one.
-fn wide(x: u8) -> u32
-    ensures { (result ≡ x) × (result < byte_bound) }
-{
-    x as u32
-}
-
-// 32 bits, low byte first.
-fn word(s: &[u8], i: usize) -> u32
-    requires { i + 4 ≤ length s.now }
-    ensures { result ≡ word_at s.now i }
-{
-    let a = wide(s[i]);
-    let b = wide(s[i + 1]);
-    let c = wide(s[i + 2]);
-    let d = wide(s[i + 3]);
-    a + 256 * b + 65536 * c + 16777216 * d
-}
+const TITLE: &str = "RPJ 1\n";
 
 // A number, and a byte after it.
-fn number_then(out: &mut [u8], at: usize, n: u64, x: u8) -> usize
-    ensures { page out.new result ≡ typed_all (page out.old at) (number_then n x) }
+#[tactic(auto, using(print::proofs::Pages::typing))]
+fn number_then(page: &mut Page, n: u64, x: u8)
+    ensures { page.new ≡ typed_all_on page.old (number_then n x) }
 {
-    let to = print::number(out, at, n);
-    print::byte(out, to, x)
+    page.number(n);
+    page.byte(x);
 }
 
-fn record_line(out: &mut [u8], at: usize, n: u64, answer: u8, value: u32) -> usize
-    ensures { page out.new result ≡ typed_all (page out.old at) (record_line n answer value) }
+// The number of a record, and the number and the value of its answer.
+#[tactic(auto, using(print::proofs::Pages::typing))]
+fn record_line(page: &mut Page, n: u64, answer: &[u8; ANSWER])
+    ensures { page.new ≡ typed_all_on page.old (record_line n (at answer.now 0) (word_at answer.now answer_value_at)) }
 {
-    let a = number_then(out, at, n, SPACE);
-    let b = number_then(out, a, answer as u64, SPACE);
-    number_then(out, b, value as u64, LINE_END)
+    let value = [
+        answer[VALUE],
+        answer[VALUE + 1],
+        answer[VALUE + 2],
+        answer[VALUE + 3],
+    ];
+    number_then(page, n, SPACE);
+    number_then(page, answer[0] as u64, SPACE);
+    number_then(page, u32::from_le_bytes(value) as u64, LINE_END);
 }
 
-// The lines of the first n records.
-fn record_lines(out: &mut [u8], at: usize, answers: &[u8], n: usize) -> usize
-    requires { answer_bytes * n ≤ length answers.now }
-    ensures { page out.new result ≡ typed_all (page out.old at) (record_lines n answers.now) }
+// The answers of records that are numbered on from `before`.
+fn record_lines(page: &mut Page, before: u64, answers: &[[u8; ANSWER]])
+    ensures { page.new ≡ typed_all_on page.old (record_lines_from before (length answers.now) (concat answers.now)) }
 {
-    let mut to = at;
-    for i in 0..n {
-        let start = ANSWER * i;
-        let answer = answers[start];
-        let value = word(answers, start + ANSWER_VALUE);
-        to = record_line(out, to, (i + 1) as u64, answer, value);
+    for (i, answer) in answers.iter().enumerate() {
+        record_line(page, before.wrapping_add(i as u64 + 1), answer);
     }
-    to
 }
 
-fn refused_line(out: &mut [u8], at: usize, n: u64) -> usize
-    ensures { page out.new result ≡ typed_all (page out.old at) (refused_line n) }
+// The first n answers in the buffer.
+fn first_answers(answers: &[u8], n: usize) -> &[[u8; ANSWER]]
+    requires { answer_bytes * n ≤ length answers.now }
+    ensures { result.now ≡ first_chunks answer_bytes n answers.now }
 {
-    let word = b"refused ";
-    let to = print::text(out, at, word);
-    number_then(out, to, n, LINE_END)
+    let (all, _) = answers.as_chunks::<ANSWER>();
+    &all[..n]
+}
+
+#[tactic(auto, using(print::proofs::Pages::typing))]
+fn refused_line(page: &mut Page, n: u64)
+    ensures { page.new ≡ typed_all_on page.old (refused_line n) }
+{
+    page.text("refused ");
+    number_then(page, n, LINE_END);
+}
+
+// The line of a refusal, and the status that goes with it.
+fn turned_away(page: &mut Page, refusal: Refusal) -> Status
+    ensures line { page.new ≡ typed_all_on page.old (refused_line (refusal_number refusal)) }
+    ensures status { digit_of result ≡ refused_status }
+{
+    refused_line(page, u8::from(refusal) as u64);
+    Status::TurnedAway
 }
 
 // Nothing where no byte is left over.
-fn cut_line(out: &mut [u8], at: usize, n: u64) -> usize
-    ensures { page out.new result ≡ typed_all (page out.old at) (cut_line n) }
+#[tactic(auto, using(print::proofs::Pages::typing))]
+fn cut_line(page: &mut Page, n: u64)
+    ensures { page.new ≡ typed_all_on page.old (cut_line n) }
 {
-    if n == 0 {
-        return at;
+    if n != 0 {
+        page.text("cut ");
+        number_then(page, n, LINE_END);
     }
-    let word = b"cut ";
-    let to = print::text(out, at, word);
-    number_then(out, to, n, LINE_END)
 }
 
-fn done_line(out: &mut [u8], at: usize, accepted: u64, refused: u64) -> usize
-    ensures { page out.new result ≡ typed_all (page out.old at) (done_line accepted refused) }
+#[tactic(auto, using(print::proofs::Pages::typing))]
+fn done_line(page: &mut Page, accepted: u64, refused: u64)
+    ensures { page.new ≡ typed_all_on page.old (done_line accepted refused) }
 {
-    let word = b"done ";
-    let a = print::text(out, at, word);
-    let b = number_then(out, a, accepted, SPACE);
-    refused_line(out, b, refused)
+    page.text("done ");
+    number_then(page, accepted, SPACE);
+    refused_line(page, refused);
 }
 
-fn report_lines(out: &mut [u8], answers: &[u8], r: Report) -> usize
+#[tactic(auto, using(print::proofs::Pages::typing))]
+fn report_lines(page: &mut Page, answers: &[u8], r: Report)
     requires { answer_bytes * r.taken ≤ length answers.now }
-    ensures { page out.new result ≡ typed_all (page out.old 0) (report_lines (report_from r) answers.now) }
+    ensures { page.new ≡ typed_all_on page.old (report_lines (report_from r) answers.now) }
 {
-    let title = b"RPJ 1\n";
-    let a = print::text(out, 0, title);
-    let b = record_lines(out, a, answers, r.taken);
-    let c = cut_line(out, b, r.left_over as u64);
-    done_line(out, c, r.accepted as u64, r.refused as u64)
+    page.text(TITLE);
+    record_lines(page, 0, first_answers(answers, r.taken));
+    cut_line(page, r.left_over as u64);
+    done_line(page, r.accepted as u64, r.refused as u64);
 }
 
-fn lines_of(out: &mut [u8], answers: &[u8], v: Verdict) -> Printed
-    requires { answer_bytes * taken_in v ≤ length answers.now }
-    ensures bytes_after { page out.new result.bytes ≡ typed_all (page out.old 0) (lines_of (verdict_from v) answers.now) }
-    ensures status_value { result.status ≡ status_of (verdict_from v) }
+fn lines_of(page: &mut Page, answers: &[u8], ran: Result<Report, Refusal>) -> Status
+    requires { answer_bytes * taken_in ran ≤ length answers.now }
+    ensures lines { page.new ≡ typed_all_on page.old (lines_of (verdict_from ran) answers.now) }
+    ensures status { digit_of result ≡ status_of (verdict_from ran) }
 {
-    match v {
-        Verdict::Done(r) => {
-            let bytes = report_lines(out, answers, r);
-            Printed { bytes, status: RAN }
+    match ran {
+        Ok(r) => {
+            report_lines(page, answers, r);
+            Status::Passed
         }
-        Verdict::Refused(n) => {
-            let bytes = refused_line(out, 0, n as u64);
-            Printed {
-                bytes,
-                status: TURNED_AWAY,
-            }
-        }
+        Err(refusal) => turned_away(page, refusal),
     }
 }
 
@@ -150,25 +143,36 @@ fn lines_of(out: &mut [u8], answers: &[u8], v: Verdict) -> Printed
 pub fn run(h: &mut Host, j: &[u8], answers: &mut [u8], out: &mut [u8]) -> Printed
     ensures { Prints (view h.old) j.now answers.old out.old result (view h.new) answers.new out.new }
 {
-    let v = journal::run(h, j, answers);
-    lines_of(out, answers, v)
+    let ran = journal::run(h, j, answers);
+    let mut page = Page::new(out);
+    let status = lines_of(&mut page, answers, ran);
+    Printed {
+        bytes: page.place(),
+        status,
+    }
 }
 
-// The image, loaded on the host: nothing is printed but of a refusal its line.
+// Nothing but of a refusal its line.
+#[tactic(auto, using(print::proofs::Pages::typing))]
+fn load_lines(page: &mut Page, loaded: Result<(), Refusal>) -> Status
+    ensures lines { page.new ≡ typed_all_on page.old (pick (code_of loaded == 0) [] (refused_line (code_of loaded))) }
+    ensures status { digit_of result ≡ pick (code_of loaded == 0) ran_status refused_status }
+{
+    match loaded {
+        Ok(()) => Status::Passed,
+        Err(refusal) => turned_away(page, refusal),
+    }
+}
+
+// The image, loaded on the host, and what is printed of that.
 pub fn load(h: &mut Host, image: &[u8], out: &mut [u8]) -> Printed
     ensures { PrintsLoad (view h.old) image.now out.old result (view h.new) out.new }
 {
-    let a = image::load(h, image);
-    let number = image::number(a);
-    if number == 0 {
-        return Printed {
-            bytes: 0,
-            status: RAN,
-        };
-    }
-    let bytes = refused_line(out, 0, number as u64);
+    let loaded = image::load(h, image);
+    let mut page = Page::new(out);
+    let status = load_lines(&mut page, loaded);
     Printed {
-        bytes,
-        status: TURNED_AWAY,
+        bytes: page.place(),
+        status,
     }
 }

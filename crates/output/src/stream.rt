@@ -1,22 +1,18 @@
 // What the program prints of a journal that arrives in pieces: the lines of one call of feed, numbered on from those before it.
-ghost use Rattle.std.specs.Prelude.{◌≡◌, ◌*◌, ◌≤◌, [], length, nat_lt};
-ghost use Rattle.laws.specs.Choice.{pick};
-ghost use Rattle.model.specs.Sizes.{header_bytes, answer_bytes, kept_bytes};
+ghost use Rattle.std.specs.Prelude.{◌≡◌, length, nat_lt};
+ghost use Rattle.std.specs.List.{concat};
+ghost use Rattle.model.specs.Sizes.{header_bytes};
 ghost use Rattle.model.specs.Pieces.{header_count, begun_count};
 ghost use Rattle.host.specs.View.{view};
-ghost use Rattle.pieces.specs.Promises.{fed_from};
-ghost use Rattle.print.specs.Text.{page, typed_all};
-ghost use Rattle.output.specs.Output.{title_line};
-ghost use Rattle.output.specs.Stream.{accepted_among, record_lines_from, told_after, open_lines, end_lines, ran_lines};
-ghost use Rattle.output.specs.Promises.{Tells, Streams};
+ghost use Rattle.print.specs.Pages.{typed_all_on};
+ghost use Rattle.output.specs.Stream.{told_records, told_after, open_lines, end_lines, ran_lines};
+ghost use Rattle.output.specs.Promises.{Streams};
 
-use super::{
-    ANSWER, ANSWER_VALUE, RAN, TURNED_AWAY, cut_line, done_line, record_line, refused_line, word,
-};
+use super::{ANSWER, TITLE, cut_line, done_line, first_answers, record_lines, turned_away};
 use host::Host;
-use pieces::{Fed, Kept};
+use pieces::Kept;
+use print::{Page, Status};
 use reader::HEADER;
-use std::num::wrapping_add_u64;
 
 // How many records were accepted and refused so far, modulo 2^64.
 #[derive(Clone, Copy)]
@@ -25,11 +21,11 @@ pub struct Told {
     pub refused: u64,
 }
 
-// How many bytes were typed, the status so far, as a digit, how many bytes of the piece were taken, and what was told with this call.
+// How many bytes were typed, the status so far, how many bytes of the piece were taken, and what was told with this call.
 #[derive(Clone, Copy)]
 pub struct Streamed {
     pub bytes: usize,
-    pub status: u8,
+    pub status: Status,
     pub taken: usize,
     pub told: Told,
 }
@@ -40,30 +36,21 @@ const BEGUN_COUNT: usize = 1;
 
 // ---- what is kept
 
-fn wide(x: u8) -> usize
-    ensures { result ≡ x }
-{
-    x as usize
-}
-
 // How many bytes of the header were taken.
-fn header_count(k: &[u8]) -> usize
-    requires { length k.now ≡ kept_bytes }
+fn header_count(k: &Kept) -> usize
     ensures { result ≡ header_count k.now }
 {
-    wide(k[HEADER_COUNT])
+    k[HEADER_COUNT] as usize
 }
 
 // How many bytes of a begun record are kept.
-fn begun_count(k: &[u8]) -> usize
-    requires { length k.now ≡ kept_bytes }
+fn begun_count(k: &Kept) -> u64
     ensures { result ≡ begun_count k.now }
 {
-    wide(k[BEGUN_COUNT])
+    k[BEGUN_COUNT] as u64
 }
 
-fn is_short(k: &[u8]) -> bool
-    requires { length k.now ≡ kept_bytes }
+fn is_short(k: &Kept) -> bool
     ensures { result ≡ nat_lt (header_count k.now) header_bytes }
 {
     header_count(k) < HEADER
@@ -71,133 +58,71 @@ fn is_short(k: &[u8]) -> bool
 
 // ---- counts
 
-// How many of the first n answers are done.
-fn accepted_among(answers: &[u8], n: usize) -> usize
-    requires { answer_bytes * n ≤ length answers.now }
-    ensures { (result ≡ accepted_among n answers.now) × (result ≤ n) }
-{
-    let mut count = 0;
-    for i in 0..n {
-        if answers[ANSWER * i] == 0 {
-            count += 1;
-        }
+impl Told {
+    fn records(self) -> u64
+        ensures { result ≡ told_records self }
+    {
+        self.accepted.wrapping_add(self.refused)
     }
-    count
-}
 
-// With n more records.
-fn told_after(told: Told, answers: &[u8], n: usize) -> Told
-    requires { answer_bytes * n ≤ length answers.now }
-    ensures { result ≡ told_after told n answers.now }
-{
-    let accepted = accepted_among(answers, n);
-    Told {
-        accepted: wrapping_add_u64(told.accepted, accepted as u64),
-        refused: wrapping_add_u64(told.refused, (n - accepted) as u64),
+    // With the records of these answers: what is 0 first is done.
+    fn after(self, answers: &[[u8; ANSWER]]) -> Told
+        ensures { result ≡ told_after self (length answers.now) (concat answers.now) }
+    {
+        let accepted = answers.iter().filter(|answer| answer[0] == 0).count();
+        let refused = answers.len() - accepted;
+        Told {
+            accepted: self.accepted.wrapping_add(accepted as u64),
+            refused: self.refused.wrapping_add(refused as u64),
+        }
     }
 }
 
 // ---- lines
 
-// The title, where the header became whole.
-fn title_line(out: &mut [u8], at: usize, whole: bool) -> usize
-    ensures { page out.new result ≡ typed_all (page out.old at) (pick whole title_line []) }
+// The title, where the header became whole, and the records.
+#[tactic(auto, using(print::proofs::Pages::typing))]
+fn open_lines(page: &mut Page, whole: bool, told: Told, answers: &[[u8; ANSWER]])
+    ensures { page.new ≡ typed_all_on page.old (open_lines whole told (length answers.now) (concat answers.now)) }
 {
     if whole {
-        let title = b"RPJ 1\n";
-        return print::text(out, at, title);
+        page.text(TITLE);
     }
-    at
-}
-
-// The lines of the first n records, numbered on from `before`.
-fn record_lines_from(out: &mut [u8], at: usize, before: u64, answers: &[u8], n: usize) -> usize
-    requires { answer_bytes * n ≤ length answers.now }
-    ensures { page out.new result ≡ typed_all (page out.old at) (record_lines_from before n answers.now) }
-{
-    let mut to = at;
-    for i in 0..n {
-        let start = ANSWER * i;
-        let answer = answers[start];
-        let value = word(answers, start + ANSWER_VALUE);
-        let number = wrapping_add_u64(before, (i + 1) as u64);
-        to = record_line(out, to, number, answer, value);
-    }
-    to
-}
-
-// The title and the records.
-fn open_lines(out: &mut [u8], whole: bool, told: Told, answers: &[u8], n: usize) -> usize
-    requires { answer_bytes * n ≤ length answers.now }
-    ensures { page out.new result ≡ typed_all (page out.old 0) (open_lines whole told n answers.now) }
-{
-    let to = title_line(out, 0, whole);
-    let before = wrapping_add_u64(told.accepted, told.refused);
-    record_lines_from(out, to, before, answers, n)
+    record_lines(page, told.records(), answers);
 }
 
 // Bytes left over and the counts, where the input ended.
-fn end_lines(out: &mut [u8], at: usize, ended: bool, left: u64, told: Told) -> usize
-    ensures { page out.new result ≡ typed_all (page out.old at) (end_lines ended left told) }
+#[tactic(auto, using(print::proofs::Pages::typing))]
+fn end_lines(page: &mut Page, ended: bool, left: u64, told: Told)
+    ensures { page.new ≡ typed_all_on page.old (end_lines ended left told) }
 {
     if ended {
-        let to = cut_line(out, at, left);
-        return done_line(out, to, told.accepted, told.refused);
+        cut_line(page, left);
+        done_line(page, told.accepted, told.refused);
     }
-    at
+}
+
+// What is printed of records that were run, and what is told with them.
+#[tactic(auto, using(print::proofs::Pages::typing))]
+fn ran_lines(
+    page: &mut Page,
+    short: bool,
+    ended: bool,
+    told: Told,
+    k: &Kept,
+    answers: &[[u8; ANSWER]],
+) -> Told
+    ensures lines { page.new ≡ typed_all_on page.old (ran_lines short ended told (length answers.now) k.now (concat answers.now)) }
+    ensures told { result ≡ told_after told (length answers.now) (concat answers.now) }
+{
+    let whole = short & (header_count(k) == HEADER);
+    let then = told.after(answers);
+    open_lines(page, whole, told, answers);
+    end_lines(page, ended, begun_count(k), then);
+    then
 }
 
 // ---- the call
-
-// What is printed of n records, after which so much is told.
-fn ran_lines(
-    out: &mut [u8],
-    short: bool,
-    ended: bool,
-    told: Told,
-    then: Told,
-    k: &[u8],
-    answers: &[u8],
-    n: usize,
-) -> usize
-    requires { (length k.now ≡ kept_bytes) × (answer_bytes * n ≤ length answers.now) × (then ≡ told_after told n answers.now) }
-    ensures { page out.new result ≡ typed_all (page out.old 0) (ran_lines short ended told n k.now answers.now) }
-{
-    let whole = short & (header_count(k) == HEADER);
-    let to = open_lines(out, whole, told, answers, n);
-    end_lines(out, to, ended, begun_count(k) as u64, then)
-}
-
-fn lines_of_call(
-    out: &mut [u8],
-    short: bool,
-    ended: bool,
-    told: Told,
-    k: &[u8],
-    answers: &[u8],
-    fed: Fed,
-) -> Streamed
-    requires { (length k.now ≡ kept_bytes) × (answer_bytes * fed.records ≤ length answers.now) }
-    ensures { Tells short ended told (fed_from fed) k.now answers.now out.old result out.new }
-{
-    if fed.number == 0 {
-        let then = told_after(told, answers, fed.records);
-        let bytes = ran_lines(out, short, ended, told, then, k, answers, fed.records);
-        return Streamed {
-            bytes,
-            status: RAN,
-            taken: fed.bytes,
-            told: then,
-        };
-    }
-    let bytes = refused_line(out, 0, fed.number as u64);
-    Streamed {
-        bytes,
-        status: TURNED_AWAY,
-        taken: fed.bytes,
-        told,
-    }
-}
 
 // The piece on the host, with what is kept, and what is printed of it. As many records are run as the answers have room for.
 pub fn feed(
@@ -212,7 +137,27 @@ pub fn feed(
     ensures { Streams (view h.old) k.old told piece.now last answers.old out.old result (view h.new) k.new answers.new out.new }
 {
     let short = is_short(k);
-    let fed = pieces::feed(h, k, piece, answers.len() / ANSWER, last, answers);
-    let ended = last & (fed.bytes == piece.len());
-    lines_of_call(out, short, ended, told, k, answers, fed)
+    let mut page = Page::new(out);
+    match pieces::feed(h, k, piece, answers.len() / ANSWER, last, answers) {
+        Ok(fed) => {
+            let ended = last & (fed.bytes == piece.len());
+            let ran = first_answers(answers, fed.records);
+            let told = ran_lines(&mut page, short, ended, told, k, ran);
+            Streamed {
+                bytes: page.place(),
+                status: Status::Passed,
+                taken: fed.bytes,
+                told,
+            }
+        }
+        Err(refusal) => {
+            let status = turned_away(&mut page, refusal);
+            Streamed {
+                bytes: page.place(),
+                status,
+                taken: 0,
+                told,
+            }
+        }
+    }
 }

@@ -2,56 +2,33 @@
 -- Assumes nothing.
 use mathlib.Core.Path.{◌≡◌, refl, sym, ap, subst, ◌∙◌}
 use mathlib.Core.Bool.{true, false}
-use mathlib.Core.Logic.{◌≢◌, ◌⊎◌, ⊎_elim}
+use mathlib.Core.Logic.{◌≢◌}
 use mathlib.Core.List.{List, [], ◌∷◌, ◌++◌, append-nil}
-use Prim.Native.Nat.{ℕ, zero, suc, ◌+◌, ◌*◌, ◌-◌, ◌/◌, ◌≤◌, ◌<◌, min}
+use Prim.Native.Nat.{ℕ, zero, suc, ◌+◌, ◌*◌, ◌-◌, ◌≤◌, ◌<◌}
 use native.Mathlib.Omega.{arith}
 use lib.Dec.{eqb}
-use lib.ListN.{length, take, drop, replicate, length-append, length-drop}
+use lib.ListN.{length, take, drop, length-append, length-drop}
 use lib.Seq.{take_all, take-append-add, drop-append-add, drop-drop, length-take-le}
+use Rattle.std.proofs.Common.{Result, Ok, Err}
 use Rattle.laws.specs.Choice.{pick}
 use Rattle.laws.specs.Search.{list_from}
-use Rattle.laws.proofs.Cases.{split, same?, below?, pick_both, pick_yes, pick_not}
+use Rattle.laws.proofs.Cases.{split, same?, below?, pick_yes, pick_not}
 use Rattle.laws.proofs.Tests.{eq⇔, lt⇔, not_so}
 use Rattle.laws.proofs.Lists.{list_of_same}
-use Rattle.model.specs.Sizes.{record_bytes, answer_bytes, count_bytes, begun_most, kept_bytes}
+use Rattle.model.specs.Sizes.{record_bytes, count_bytes, begun_most, kept_bytes}
 use Rattle.model.specs.State.{State}
 use Rattle.model.specs.Valid.{valid?}
 use Rattle.model.specs.Run.{run}
 use Rattle.model.specs.Journal.{pasted}
 use Rattle.model.specs.Pieces.{header_count, begun, header_part, at_hand, whole_in, records_in, is_left, bytes_taken, begun_after, kept_of, kept_after}
 use Rattle.model.proofs.Pieces.{records_split}
+use Rattle.numbers.specs.declared.refusal.Refusal.{Refusal}
+use Rattle.numbers.specs.declared.refusal.Refusal.TheVariants.{NotValid}
 use Rattle.steps.specs.declared.Ran.{Ran}
-use Rattle.steps.specs.declared.Ran.TheVariants.{Refused}
-use Rattle.steps.specs.Parts.{took_of, records_from, together_count, joined_records, most_of, RunsJoined, RunsMost}
+use Rattle.steps.specs.Parts.{took_of, records_from, joined_records, most_of, RunsJoined, RunsMost}
 use Rattle.steps.proofs.Joining.{one_together}
-use Rattle.pieces.specs.Promises.{behind_records, RunsHand, begun_with}
-use Rattle.pieces.proofs.Bytes.{with_length, begun_length, begun_again}
-
--- ---- numbers
-
--- as many as there are, and have room
-all_of_them : (n a b : ℕ) → n ≤ a → n ≤ b → min n (min a b) ≡ n
-all_of_them n a b h k = omega arith
-
--- of g bytes and those from place p on, n records: one of them needs the first bytes from there on
-one_and_others : (n g p size : ℕ) → g ≤ begun_most → 1 ≤ n → n ≤ whole_in (g + (size - p)) → n ≤ 1 + (size - (p + (record_bytes - g))) / record_bytes
-one_and_others n g p size h k l = omega arith
-
-none_of_these : (n g p size : ℕ) → g ≡ 0 → n ≤ whole_in (g + (size - p)) → n ≤ 0 + (size - p) / record_bytes
-none_of_these n g p size e h = omega arith
-
--- the first bytes complete a record
-pub completes : (n g p size : ℕ) → g ≤ begun_most → 1 ≤ n → n ≤ whole_in (g + (size - p)) → record_bytes - g ≤ size - p
-completes n g p size h k l = omega arith
-
--- n records end within the bytes
-ends_within : (n g p size : ℕ) → p ≤ size → n ≤ whole_in (g + (size - p)) → p + (record_bytes * n - g) ≤ size
-ends_within n g p size h k = omega arith
-
--- fewer bytes than a record has are left behind all whole ones
-fewer_left : (n size : ℕ) → whole_in size ≤ n → size - record_bytes * n ≤ begun_most
-fewer_left n size h = omega arith
+use Rattle.pieces.specs.Promises.{most_in, RunsHand, begun_with}
+use Rattle.pieces.proofs.Bytes.{begun_length, begun_again}
 
 -- ---- records
 
@@ -64,7 +41,80 @@ records_front x n = let e : suc n ≡ 1 + n = omega arith in ap (records_in x) e
 records_from_law : (j : List ℕ) (start n : ℕ) → records_in (drop start j) n ≡ records_from j start n
 records_from_law j start n = list_of_same n [] (λ i h. ap (take record_bytes) (drop-drop (record_bytes * i) start j))
 
-module _ (k piece : List ℕ) where
+-- ---- run: of a begun record, g, and the rest, r
+
+hand_runs : (x : List ℕ) {s : State} {b first j : List ℕ} {p n m : ℕ} {r : Result Ran Refusal} {t : State} {c : List ℕ} → m ≡ n
+    → joined_records first j p n ≡ records_in x n → RunsJoined m s first j p b r t c → RunsHand n s x b r t c
+hand_runs x {s} {b} {first} {j} {p} {n} {m} {r} {t} {c} e f w =
+    let y = subst (λ (i : ℕ). RunsJoined i s first j p b r t c) e w in
+    record {
+      result = y.result ∙ ap (λ (l : List (List ℕ)). pick (valid? s) (Ok (took_of (run s l) n)) (Err NotValid)) f;
+      state = y.state ∙ ap (λ (l : List (List ℕ)). pick (valid? s) (run s l).state s) f;
+      buffer = y.buffer ∙ ap (λ (l : List (List ℕ)). pick (valid? s) (pasted (run s l).answers b) b) f;
+    }
+
+-- a begun record is completed
+module _ (g r : List ℕ) (h : length g ≤ begun_most) (l : record_bytes - length g ≤ length r) where
+  abbrev missing : ℕ
+  missing = record_bytes - length g
+
+  abbrev completed : List ℕ
+  completed = g ++ take missing r
+
+  all_there : record_bytes ≡ length g + missing
+  all_there = omega arith
+
+  completed_length : length completed ≡ record_bytes
+  completed_length = omega (arith, length-append g (take missing r), length-take-le missing r l)
+
+  first_at_hand : take record_bytes (g ++ r) ≡ completed
+  first_at_hand = ap (λ (n : ℕ). take n (g ++ r)) all_there ∙ take-append-add g r missing
+
+  rest_at_hand : drop record_bytes (g ++ r) ≡ drop missing r
+  rest_at_hand = ap (λ (n : ℕ). drop n (g ++ r)) all_there ∙ drop-append-add g r missing
+
+  one_begun : (first : List ℕ) → first ≡ completed → (n : ℕ) → joined_records first r missing n ≡ records_in (g ++ r) n
+  unfolding list_from
+  one_begun [] e n = let z = ap length e in absurd (omega (arith, completed_length))
+  one_begun (x ∷ f) e zero = refl
+  one_begun (x ∷ f) e (suc n) =
+      (λ i. (e ∙ sym first_at_hand) i ∷ (sym (records_from_law r missing n) ∙ ap (λ (q : List ℕ). records_in q n) (sym rest_at_hand)) i)
+      ∙ sym (records_front (g ++ r) n)
+
+module _ (allowance : ℕ) (s : State) (b g r : List ℕ) where
+  -- no begun record
+  pub runs_none_begun : {a : Result Ran Refusal} {t : State} {c : List ℕ} → length g ≡ 0 → RunsMost allowance s [] r 0 b a t c
+      → RunsHand (most_in allowance (g ++ r) b) s (g ++ r) b a t c
+  runs_none_begun {a} {t} {c} e w =
+      let m : most_of allowance [] r 0 b ≡ most_in allowance (g ++ r) b = omega (arith, length-append g r) in
+      hand_runs (g ++ r) m (sym (records_from_law r 0 (most_in allowance (g ++ r) b)) ∙ ap (λ (l : List ℕ). records_in (l ++ r) (most_in allowance (g ++ r) b)) (sym (empty g e))) w
+    where
+      empty : (l : List ℕ) → length l ≡ 0 → l ≡ []
+      empty [] e = refl
+      empty (x ∷ l) e = absurd (omega arith)
+
+  -- a begun record that stays one
+  pub runs_nothing : {a : Result Ran Refusal} {t : State} {c : List ℕ} → length r < record_bytes - length g → RunsMost allowance s [] [] 0 b a t c
+      → RunsHand (most_in allowance (g ++ r) b) s (g ++ r) b a t c
+  unfolding list_from
+  runs_nothing {a} {t} {c} h w =
+      let m : most_of allowance [] [] 0 b ≡ 0 = omega arith in
+      let n : most_in allowance (g ++ r) b ≡ 0 = omega (arith, length-append g r) in
+      subst (λ (i : ℕ). RunsHand i s (g ++ r) b a t c) (sym n) (hand_runs (g ++ r) m refl w)
+
+  -- one that is completed
+  pub runs_begun : {first : List ℕ} {a : Result Ran Refusal} {t : State} {c : List ℕ} → length g ≤ begun_most → record_bytes - length g ≤ length r
+      → first ≡ g ++ take (record_bytes - length g) r → RunsMost allowance s first r (record_bytes - length g) b a t c
+      → RunsHand (most_in allowance (g ++ r) b) s (g ++ r) b a t c
+  runs_begun {first} h l e w =
+      let z : length first ≡ record_bytes = ap length e ∙ completed_length g r h l in
+      let j = one_together first (λ y. omega arith) in
+      let m : most_of allowance first r (record_bytes - length g) b ≡ most_in allowance (g ++ r) b = omega (arith, j, length-append g r) in
+      hand_runs (g ++ r) m (one_begun g r h l first e (most_in allowance (g ++ r) b)) w
+
+-- ---- left
+
+module _ (k piece : List ℕ) (w : length k ≡ kept_bytes) where
   abbrev start : ℕ
   start = header_part k piece
 
@@ -74,115 +124,16 @@ module _ (k piece : List ℕ) where
   abbrev held : ℕ
   held = length (begun k)
 
-  pub hand_length : length (at_hand k piece) ≡ held + (length piece - start)
-  hand_length = omega (arith, length-append (begun k) rest, length-drop start piece)
+  pub hand_length : length (at_hand k piece) ≡ held + length rest
+  hand_length = length-append (begun k) rest
 
-  -- no begun record, or nothing to run: those of the piece
-  none_begun : (n : ℕ) → (n ≡ 0) ⊎ (held ≡ 0) → records_from piece start n ≡ records_in (at_hand k piece) n
-  unfolding list_from
-  none_begun n =
-      ⊎_elim (λ e. ap (records_from piece start) e ∙ sym (ap (records_in (at_hand k piece)) e))
-      (λ e. sym (records_from_law piece start n) ∙ ap (λ (l : List ℕ). records_in (l ++ rest) n) (sym (empty (begun k) e)))
-    where
-      empty : (l : List ℕ) → length l ≡ 0 → l ≡ []
-      empty [] e = refl
-      empty (x ∷ l) e = absurd (omega arith)
-
-  -- the begun record is completed
-  abbrev completed : List ℕ
-  completed = begun k ++ take (record_bytes - held) rest
-
-  completed_length : held ≤ begun_most → record_bytes - held ≤ length piece - start → length completed ≡ record_bytes
-  completed_length g h =
-      let t : length (take (record_bytes - held) rest) ≡ record_bytes - held =
-      length-take-le (record_bytes - held) rest (subst (λ (i : ℕ). record_bytes - held ≤ i) (sym (length-drop start piece)) h) in
-      length-append (begun k) (take (record_bytes - held) rest) ∙ ap (λ (i : ℕ). held + i) t ∙ whole_again held g
-    where
-      whole_again : (g : ℕ) → g ≤ begun_most → g + (record_bytes - g) ≡ record_bytes
-      whole_again g h = omega arith
-
-  first_at_hand : held ≤ record_bytes → take record_bytes (at_hand k piece) ≡ completed
-  first_at_hand h =
-      let e : record_bytes ≡ held + (record_bytes - held) = omega arith in
-      ap (λ (n : ℕ). take n (at_hand k piece)) e ∙ take-append-add (begun k) rest (record_bytes - held)
-
-  rest_at_hand : held ≤ record_bytes → drop record_bytes (at_hand k piece) ≡ drop (start + (record_bytes - held)) piece
-  rest_at_hand h =
-      let e : record_bytes ≡ held + (record_bytes - held) = omega arith in
-      ap (λ (n : ℕ). drop n (at_hand k piece)) e
-      ∙ drop-append-add (begun k) rest (record_bytes - held)
-      ∙ drop-drop (record_bytes - held) start piece
-
-  one_begun : (n : ℕ) → held ≤ record_bytes → length completed ≢ 0 → 1 ≤ n
-      → joined_records completed piece (start + (record_bytes - held)) n ≡ records_in (at_hand k piece) n
-  one_begun zero h z o = absurd (omega arith)
-  one_begun (suc n) h z o =
-      go completed z
-      ∙ (λ i. sym (first_at_hand h) i ∷ (sym (records_from_law piece (start + (record_bytes - held)) n) ∙ ap (λ (l : List ℕ). records_in l n) (sym (rest_at_hand h))) i)
-      ∙ sym (records_front (at_hand k piece) n)
-    where
-      go : (l : List ℕ) → length l ≢ 0
-          → joined_records l piece (start + (record_bytes - held)) (suc n) ≡ l ∷ records_from piece (start + (record_bytes - held)) n
-      go [] z = absurd (z refl)
-      go (x ∷ l) z = refl
-
-  -- n records at hand, counted by the begun record and the rest of the piece
-  pub within : {n g p : ℕ} → n ≤ whole_in (length (at_hand k piece)) → g ≡ held → p ≡ start → n ≤ whole_in (g + (length piece - p))
-  within {n} h e f = subst (λ (i : ℕ). n ≤ whole_in i) (hand_length ∙ (λ i. sym e i + (length piece - sym f i))) h
-
-  -- ---- run
-
-  hand_runs : {s : State} {b first : List ℕ} {p n m : ℕ} {r : Ran} {t : State} {c : List ℕ} → m ≡ n
-      → joined_records first piece p n ≡ records_in (at_hand k piece) n
-      → RunsJoined m s first piece p b r t c → RunsHand n s (at_hand k piece) b r t c
-  hand_runs {s} {b} {first} {p} {n} {m} {r} {t} {c} e f w =
-      let x = subst (λ (i : ℕ). RunsJoined i s first piece p b r t c) e w in
-      record {
-        result = x.result ∙ ap (λ (l : List (List ℕ)). pick (valid? s) (took_of (run s l) n) (Refused 1)) f;
-        state = x.state ∙ ap (λ (l : List (List ℕ)). pick (valid? s) (run s l).state s) f;
-        buffer = x.buffer ∙ ap (λ (l : List (List ℕ)). pick (valid? s) (pasted (run s l).answers b) b) f;
-      }
-
-  module _ (n : ℕ) (b : List ℕ) (h : n ≤ whole_in (length (at_hand k piece))) (room : answer_bytes * n ≤ length b) where
-    pub runs_none_begun : {s : State} {r : Ran} {t : State} {c : List ℕ} → (n ≡ 0) ⊎ (held ≡ 0) → RunsMost n s [] piece start b r t c
-        → RunsHand n s (at_hand k piece) b r t c
-    runs_none_begun o =
-        let e : most_of n [] piece start b ≡ n =
-        all_of_them n (length b / answer_bytes) (0 + (length piece - start) / record_bytes) (omega (arith, room))
-        (⊎_elim (λ z. omega (arith, z)) (λ z. none_of_these n held start (length piece) z (subst (λ (i : ℕ). n ≤ whole_in i) hand_length h)) o) in
-        hand_runs e (none_begun n o)
-
-    pub runs_begun : {s : State} {first : List ℕ} {r : Ran} {t : State} {c : List ℕ} → length k ≡ kept_bytes → 1 ≤ n → first ≡ completed
-        → RunsMost n s first piece (start + (record_bytes - held)) b r t c
-        → RunsHand n s (at_hand k piece) b r t c
-    runs_begun {s} {first} {r} {t} {c} w o q x =
-        let l = hand_length in
-        let g = (begun_length k w).0 in
-        let q' : n ≤ whole_in (held + (length piece - start)) = subst (λ (i : ℕ). n ≤ whole_in i) l h in
-        let m : length completed ≡ record_bytes = completed_length g (completes n held start (length piece) g o q') in
-        let z : length completed ≢ 0 = λ y. omega arith in
-        let j = one_together completed z in
-        let y : n ≤ 1 + (length piece - (start + (record_bytes - held))) / record_bytes =
-        one_and_others n held start (length piece) g o q' in
-        let e : most_of n completed piece (start + (record_bytes - held)) b ≡ n =
-        all_of_them n (length b / answer_bytes) (together_count completed + (length piece - (start + (record_bytes - held))) / record_bytes)
-        (omega (arith, room))
-        (subst (λ (i : ℕ). n ≤ i + (length piece - (start + (record_bytes - held))) / record_bytes) (sym j) y) in
-        hand_runs e (one_begun n (omega arith) z o)
-        (subst (λ (f : List ℕ). RunsMost n s f piece (start + (record_bytes - held)) b r t c) q x)
-
-  -- ---- left
-
+  -- where the piece goes on behind its header bytes and n records
   abbrev behind : ℕ → ℕ
-  behind n = behind_records k piece n
-
-  pub behind_most : length k ≡ kept_bytes → (n : ℕ) → n ≤ whole_in (length (at_hand k piece)) → (start ≤ behind n) × (behind n ≤ length piece)
-  behind_most w n h = (omega arith, ends_within n held start (length piece) (omega arith) (subst (λ (i : ℕ). n ≤ whole_in i) hand_length h))
+  behind n = start + (record_bytes * n - held)
 
   -- the bytes that stay
   stay : (n : ℕ) → take (pick (eqb n 0) held 0) (drop count_bytes k) ≡ pick (eqb n 0) (begun k) []
-  stay n =
-      split (eqb n 0) (λ e. rw e (begun_again k)) (λ e. rw e refl)
+  stay n = split (eqb n 0) (λ e. rw e (begun_again k)) (λ e. rw e refl)
 
   abbrev more : ℕ → List ℕ
   more n = take (bytes_taken k piece n - behind n) (drop (behind n) piece)
@@ -219,66 +170,28 @@ module _ (k piece : List ℕ) where
       past_these : (n g : ℕ) → n ≢ 0 → g ≤ record_bytes → record_bytes * n ≡ g + (record_bytes * n - g)
       past_these n g z h = omega arith
 
-  none_left : (n : ℕ) → length k ≡ kept_bytes → n ≤ whole_in (length (at_hand k piece)) → whole_in (length (at_hand k piece)) ≤ n
-      → stayed n ≡ begun_after k piece n
-  none_left n w h l =
+  none_left : (n : ℕ) → n ≤ whole_in (length (at_hand k piece)) → whole_in (length (at_hand k piece)) ≤ n → stayed n ≡ begun_after k piece n
+  none_left n h l =
       let t : is_left k piece n ≡ false = not_so (lt⇔ n (whole_in (length (at_hand k piece)))) (λ q. omega arith) in
       let b : bytes_taken k piece n ≡ length piece = pick_not (behind n) (length piece) t in
       let m : more n ≡ drop (behind n) piece =
       ap (λ (i : ℕ). take (i - behind n) (drop (behind n) piece)) b
       ∙ take_all (length piece - behind n) (drop (behind n) piece) (omega (arith, length-drop (behind n) piece)) in
       (λ i. stay n i ++ m i)
-      ∙ behind_all n (omega (arith, (begun_length k w).0))
+      ∙ behind_all n (omega (arith, begun_length k w))
       ∙ sym (pick_not (pick (eqb n 0) (begun k) []) (drop (record_bytes * n) (at_hand k piece)) t)
 
-  -- bytes of the begun record that stay, and others of the piece: what is kept after n records
-  pub kept_after_law : (n : ℕ) → length k ≡ kept_bytes → n ≤ whole_in (length (at_hand k piece)) → {stays : ℕ} → stays ≡ pick (eqb n 0) held 0
-      → begun_with k stays (take (bytes_taken k piece n - behind n) (drop (behind n) piece)) ≡ begun_after k piece n
-  kept_after_law n w h {stays} e =
-      ap (λ (i : ℕ). begun_with k i (take (bytes_taken k piece n - behind n) (drop (behind n) piece))) e
-      ∙ below? n (whole_in (length (at_hand k piece))) (some_left n) (none_left n w h)
+  kept_after_law : (n : ℕ) → n ≤ whole_in (length (at_hand k piece)) → stayed n ≡ begun_after k piece n
+  kept_after_law n h = below? n (whole_in (length (at_hand k piece))) (some_left n) (none_left n h)
 
-  -- no more than may be kept
-  after_most : (n : ℕ) → length k ≡ kept_bytes → length (begun_after k piece n) ≤ begun_most
-  after_most n w =
-      below? n (whole_in (length (at_hand k piece)))
-      (λ l. subst (λ (x : List ℕ). length x ≤ begun_most) (sym (pick_yes (pick (eqb n 0) (begun k) []) (drop (record_bytes * n) (at_hand k piece)) ((lt⇔ n (whole_in (length (at_hand k piece)))).1 l)))
-      (pick_both (λ (x : List ℕ). length x ≤ begun_most) (eqb n 0) (λ e. (begun_length k w).0) (λ e. omega arith)))
-      (λ l. subst (λ (x : List ℕ). length x ≤ begun_most) (sym (pick_not (pick (eqb n 0) (begun k) []) (drop (record_bytes * n) (at_hand k piece)) (not_so (lt⇔ n (whole_in (length (at_hand k piece)))) (λ q. omega arith))))
-      (subst (λ (i : ℕ). i ≤ begun_most) (sym (length-drop (record_bytes * n) (at_hand k piece))) (fewer_left n (length (at_hand k piece)) l)))
+  -- bytes of the begun record that stay, and others of the piece, as code has them: what is kept after n records
+  pub keeps : (n : ℕ) → n ≤ whole_in (length (at_hand k piece)) → {stays from to r : ℕ} → stays ≡ pick (eqb n 0) held 0 → from ≡ behind n
+      → to ≡ bytes_taken k piece n → r ≡ header_count k + start → kept_of r (begun_with k stays (take (to - from) (drop from piece))) ≡ kept_after k piece n
+  keeps n h {stays} {from} {to} {r} e f g q =
+      let p : begun_with k stays (take (to - from) (drop from piece)) ≡ begun_after k piece n =
+      (λ i. begun_with k (e i) (take (g i - f i) (drop (f i) piece))) ∙ kept_after_law n h in
+      λ i. kept_of (q i) (p i)
 
-  -- the parts as code has them
-  module _ (n : ℕ) (w : length k ≡ kept_bytes) (h : n ≤ whole_in (length (at_hand k piece))) {stays from to : ℕ}
-      (e : stays ≡ pick (eqb n 0) held 0) (f : from ≡ behind n) (g : to ≡ bytes_taken k piece n) where
-    abbrev part : List ℕ
-    part = take (to - from) (drop from piece)
-
-    pub kept_parts : begun_with k stays part ≡ begun_after k piece n
-    kept_parts = (λ i. begun_with k stays (take (g i - f i) (drop (f i) piece))) ∙ kept_after_law n w h e
-
-    pub parts_most : stays + length part ≤ begun_most
-    parts_most =
-        let o : stays ≤ begun_most =
-        subst (λ (i : ℕ). i ≤ begun_most) (sym e) (pick_both (λ (i : ℕ). i ≤ begun_most) (eqb n 0) (λ q. (begun_length k w).0) (λ q. omega arith)) in
-        subst (λ (i : ℕ). i ≤ begun_most) (sym (ap length kept_parts) ∙ with_length k stays part w o) (after_most n w)
-
-    pub keeps : (r : ℕ) → r ≡ header_count k + start → kept_of r (begun_with k stays part) ≡ kept_after k piece n
-    keeps r q = λ i. kept_of (q i) (kept_parts i)
-
-  -- the begun record, completed as code has it
-  pub gathered_whole : length k ≡ kept_bytes → {g p : ℕ} {first : List ℕ} → g ≡ held → p ≡ start → record_bytes - held ≤ length piece - start
-      → first ≡ begun_with k g (take (p + (record_bytes - g) - p) (drop p piece)) ++ replicate (record_bytes - (g + length (take (p + (record_bytes - g) - p) (drop p piece)))) 0
-      → first ≡ completed
-  gathered_whole w {g} {p} {first} e f h q =
-      let m : p + (record_bytes - g) - p ≡ record_bytes - held = omega (arith, e) in
-      let x : take (p + (record_bytes - g) - p) (drop p piece) ≡ take (record_bytes - held) rest = λ i. take (m i) (drop (f i) piece) in
-      let y : begun_with k g (take (p + (record_bytes - g) - p) (drop p piece)) ≡ completed =
-      (λ i. take (e i) (drop count_bytes k) ++ x i) ∙ ap (λ (l : List ℕ). l ++ take (record_bytes - held) rest) (begun_again k) in
-      let t : length (take (record_bytes - held) rest) ≡ record_bytes - held =
-      length-take-le (record_bytes - held) rest (subst (λ (i : ℕ). record_bytes - held ≤ i) (sym (length-drop start piece)) h) in
-      let z : record_bytes - (g + length (take (p + (record_bytes - g) - p) (drop p piece))) ≡ 0 =
-      (λ i. record_bytes - (e i + (ap length x ∙ t) i)) ∙ all_there held in
-      q ∙ (λ i. y i ++ replicate (z i) 0) ∙ append-nil completed
-    where
-      all_there : (g : ℕ) → record_bytes - (g + (record_bytes - g)) ≡ 0
-      all_there g = omega arith
+  -- the whole records at hand, as code counts them
+  pub whole_law : {g r : List ℕ} {n : ℕ} → (g ≡ begun k) × (r ≡ rest) → n ≡ whole_in (length g + length r) → n ≡ whole_in (length (at_hand k piece))
+  whole_law e f = f ∙ (λ i. whole_in (length (e.0 i) + length (e.1 i))) ∙ ap whole_in (sym hand_length)

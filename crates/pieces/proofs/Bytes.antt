@@ -1,103 +1,97 @@
--- Lists of bytes: padded with zeros, put together from two, and filled place by place.
+-- Lists of bytes: what is kept, written over what was, and how much of it is a begun record.
 -- Assumes nothing.
 use mathlib.Core.Path.{◌≡◌, refl, sym, ap, ◌∙◌}
-use mathlib.Core.List.{List, ◌∷◌, ◌++◌}
-use Prim.Native.Nat.{ℕ, zero, suc, ◌+◌, ◌-◌, ◌≤◌, ◌<◌}
+use mathlib.Core.List.{List, [], ◌∷◌, ◌++◌, append-nil}
+use Prim.Native.Nat.{ℕ, ◌+◌, ◌-◌, ◌≤◌}
 use native.Mathlib.Omega.{arith}
-use lib.ListN.{length, take, drop, set, length-set, replicate, length-append, length-take, length-drop, length-replicate, get_or-replicate, get_or-append}
-use lib.Seq.{ext_get_or, take_all, take-length, length-take-le, get_or-take, get_or-drop, get_or-append-add}
-use Rattle.laws.specs.Choice.{at}
+use borrow.Rule.Slice.PartMut.{put_mid, mid_of}
+use lib.ListN.{length, take, drop, set, replicate, length-append, length-take, length-drop, drop_of_length-le}
+use lib.Seq.{take_all, take-length, length-take-le, take-append_seam, drop-append_seam}
+use Rattle.std.proofs.lemmas.Slice.{take-put_mid}
 use Rattle.laws.proofs.Cases.{below?}
-use Rattle.laws.proofs.Lists.{at_past, at_same, at_other}
-use Rattle.model.specs.Sizes.{record_bytes, count_bytes, begun_most, kept_bytes}
-use Rattle.model.specs.Pieces.{begun, begun_count, kept_of}
-use Rattle.pieces.specs.Promises.{begun_with}
-
--- ---- padded with zeros
-
-at_zeros : (m j : ℕ) → at (replicate m 0) j ≡ 0
-at_zeros m j =
-    below? j m (λ h. get_or-replicate m j 0 0 h) (λ h. at_past (replicate m 0) j (omega (arith, length-replicate {A = ℕ} m 0)))
-
-pub at_padded : (r : List ℕ) (m j : ℕ) → at (r ++ replicate m 0) j ≡ at r j
-at_padded r m j =
-    below? j (length r)
-    (λ h. get_or-append r (replicate m 0) 0 j h)
-    (λ h. let e : j ≡ length r + (j - length r) = omega arith in
-    ap (at (r ++ replicate m 0)) e ∙ get_or-append-add r (replicate m 0) (j - length r) 0 ∙ at_zeros m (j - length r) ∙ sym (at_past r j h))
-
-length_padded : (r : List ℕ) (n : ℕ) → length r ≤ n → length (r ++ replicate (n - length r) 0) ≡ n
-length_padded r n h = omega (arith, length-append r (replicate (n - length r) 0), length-replicate {A = ℕ} (n - length r) 0)
-
--- a list that has the bytes of r, and zeros behind them
-pub padded : (n : ℕ) (xs r : List ℕ) → length xs ≡ n → length r ≤ n → ((j : ℕ) → j < n → at xs j ≡ at r j) → xs ≡ r ++ replicate (n - length r) 0
-padded n xs r e h f =
-    ext_get_or 0 xs (r ++ replicate (n - length r) 0) (e ∙ sym (length_padded r n h))
-    (λ j k. f j (omega arith) ∙ sym (at_padded r (n - length r) j))
-
--- ---- of the bytes kept, and others behind them
-
-module _ (k : List ℕ) (stays : ℕ) (more : List ℕ) (w : length k ≡ kept_bytes) (h : stays ≤ begun_most) where
-  stays_length : length (take stays (drop count_bytes k)) ≡ stays
-  stays_length = length-take-le stays (drop count_bytes k) (omega (arith, length-drop count_bytes k))
-
-  pub with_length : length (begun_with k stays more) ≡ stays + length more
-  with_length = omega (arith, length-append (take stays (drop count_bytes k)) more, stays_length)
-
-  pub with_stays : (i : ℕ) → i < stays → at k (count_bytes + i) ≡ at (begun_with k stays more) i
-  with_stays i l =
-      sym
-      (get_or-append (take stays (drop count_bytes k)) more 0 i (omega (arith, stays_length))
-      ∙ get_or-take stays (drop count_bytes k) i 0 l
-      ∙ get_or-drop count_bytes k i 0)
-
-  behind_stays : (i : ℕ) → stays ≤ i → at (begun_with k stays more) i ≡ at more (i - stays)
-  behind_stays i l =
-      let e : i ≡ length (take stays (drop count_bytes k)) + (i - stays) = omega (arith, stays_length) in
-      ap (at (begun_with k stays more)) e ∙ get_or-append-add (take stays (drop count_bytes k)) more (i - stays) 0
-
-  pub with_more : (i : ℕ) → stays ≤ i → at more (i - stays) ≡ at (begun_with k stays more) i
-  with_more i l = sym (behind_stays i l)
-
-  pub with_none : (i : ℕ) → stays ≤ i → length more ≤ i - stays → 0 ≡ at (begun_with k stays more) i
-  with_none i l m = sym (behind_stays i l ∙ at_past more (i - stays) m)
+use Rattle.model.specs.Sizes.{count_bytes, begun_most, kept_bytes}
+use Rattle.model.specs.Pieces.{begun, begun_count}
+use Rattle.pieces.specs.Promises.{begun_with, holds}
 
 -- ---- written anew
 
 -- both counts are stored
-pub two_counts : (k : List ℕ) (n m : ℕ) (b : List ℕ) → length k ≡ kept_bytes → (j : ℕ) → j < count_bytes + 0 → at (set (set k 0 n) 1 m) j ≡ at (n ∷ m ∷ b) j
-two_counts k n m b w zero h = at_other (set k 0 n) 1 m 0 (λ e. omega arith) ∙ at_same k 0 n (omega arith)
-two_counts k n m b w (suc zero) h = at_same (set k 0 n) 1 m (omega (arith, length-set k 0 n))
-two_counts k n m b w (suc (suc j)) h = absurd (omega arith)
+counts_stored : (k : List ℕ) (n m : ℕ) → count_bytes ≤ length k → set (set k 0 n) 1 m ≡ n ∷ m ∷ drop count_bytes k
+counts_stored [] n m h = absurd (omega arith)
+counts_stored (x ∷ []) n m h = absurd (omega arith)
+counts_stored (x ∷ y ∷ k) n m h = refl
 
--- two counts, and bytes behind them
-pub written_anew : (n m : ℕ) (b k : List ℕ) → length k ≡ kept_bytes → length b ≡ record_bytes
-    → ((j : ℕ) → j < count_bytes + begun_most → at k j ≡ at (n ∷ m ∷ b) j) → k ≡ n ∷ m ∷ take begun_most b
-written_anew n m b k e l f =
-    let t = length-take-le begun_most b (omega arith) in
-    ext_get_or 0 k (n ∷ m ∷ take begun_most b) (omega arith) (λ j h. f j (omega arith) ∙ same j (omega arith))
-  where
-    same : (j : ℕ) → j < count_bytes + begun_most → at (n ∷ m ∷ b) j ≡ at (n ∷ m ∷ take begun_most b) j
-    same zero h = refl
-    same (suc zero) h = refl
-    same (suc (suc j)) h = sym (get_or-take begun_most b j 0 (omega arith))
+-- what follows the first bytes is stored, and then what follows that
+parts_stored : (b more z : List ℕ) (stays : ℕ) → stays + length more ≤ length b → {n : ℕ} → n ≡ stays + length more → {inner : List ℕ}
+    → inner ≡ put_mid stays (n - stays) b more → put_mid n (length inner - n) inner z ≡ (take stays b ++ more) ++ z
+parts_stored b more z stays h {n} e {inner} f =
+    let t : take n inner ≡ take stays b ++ more = ap (take n) f ∙ take-put_mid stays (n - stays) b more n e (omega arith) in
+    let d : drop (length inner - n) (drop n inner) ≡ [] = drop_of_length-le (drop n inner) {i = length inner - n} (omega (arith, length-drop n inner)) in
+    (λ i. t i ++ (z ++ d i)) ∙ ap (λ (l : List ℕ). (take stays b ++ more) ++ l) (append-nil z)
 
-pub kept_anew : (n : ℕ) (r b : List ℕ) → length r ≤ begun_most → b ≡ r ++ replicate (record_bytes - length r) 0
-    → n ∷ length r ∷ take begun_most b ≡ kept_of n r
-kept_anew n r b h e =
-    let p = length_padded r record_bytes (omega arith) in
-    let t = length-take-le begun_most (r ++ replicate (record_bytes - length r) 0) (omega arith) in
-    ap (λ (l : List ℕ). n ∷ length r ∷ l)
-    (ap (take begun_most) e
-    ∙ padded begun_most (take begun_most (r ++ replicate (record_bytes - length r) 0)) r t h
-    (λ j k. get_or-take begun_most (r ++ replicate (record_bytes - length r) 0) j 0 k ∙ at_padded r (record_bytes - length r) j))
+-- two parts that follow one another, over other bytes
+pub parts_joined : (g m z : List ℕ) → length g ≤ length z → {x y : List ℕ} → x ≡ g → y ≡ m
+    → put_mid (length g) (length z - length g) (x ++ drop (length g) z) y ≡ g ++ m
+parts_joined g m z h {x} {y} e f =
+    let d : drop (length z - length g) (drop (length g) z) ≡ [] =
+    drop_of_length-le (drop (length g) z) {i = length z - length g} (omega (arith, length-drop (length g) z)) in
+    (λ i. put_mid (length g) (length z - length g) (e i ++ drop (length g) z) (f i))
+    ∙ (λ i. take-append_seam g (drop (length g) z) i ++ (m ++ drop (length z - length g) (drop-append_seam g (drop (length g) z) i)))
+    ∙ ap (λ (l : List ℕ). g ++ (m ++ l)) d
+    ∙ ap (λ (l : List ℕ). g ++ l) (append-nil m)
 
--- how many bytes of a begun record there are
-pub begun_length : (k : List ℕ) → length k ≡ kept_bytes → (length (begun k) ≤ begun_most) × (begun_count k ≤ begun_most → length (begun k) ≡ begun_count k)
-begun_length k w =
-    let t = length-take (begun_count k) (drop count_bytes k) in
-    let d = length-drop count_bytes k in
-    (omega arith, λ h. omega arith)
+module _ (k : List ℕ) (stays : ℕ) (more : List ℕ) (w : length k ≡ kept_bytes) (h : stays + length more ≤ begun_most) where
+  with_length : length (begun_with k stays more) ≡ stays + length more
+  with_length =
+      omega (arith, length-append (take stays (drop count_bytes k)) more, length-take-le stays (drop count_bytes k) (omega (arith, length-drop count_bytes k)))
+
+  -- as code stores them, with so many header bytes
+  module _ (n : ℕ) where
+    abbrev count : ℕ
+    count = stays + length more
+
+    abbrev counted : List ℕ
+    counted = set (set k 0 n) 1 count
+
+    abbrev bytes : List ℕ
+    bytes = mid_of count_bytes begun_most counted
+
+    bytes_stay : bytes ≡ drop count_bytes k
+    bytes_stay =
+        ap (mid_of count_bytes begun_most) (counts_stored k n count (omega arith)) ∙ take_all begun_most (drop count_bytes k) (omega (arith, length-drop count_bytes k))
+
+    abbrev followed : List ℕ → List ℕ
+    followed part = put_mid stays (count - stays) bytes part
+
+    followed_length : length (followed more) ≡ begun_most
+    followed_length =
+        let l : length bytes ≡ begun_most = ap length bytes_stay ∙ omega (arith, length-drop count_bytes k) in
+        omega
+        (arith, length-append (take stays bytes) (more ++ drop (count - stays) (drop stays bytes)), length-append more (drop (count - stays) (drop stays bytes)), length-take-le stays bytes (omega arith), length-drop (count - stays) (drop stays bytes), length-drop stays bytes)
+
+    abbrev padded : List ℕ
+    padded = begun_with k stays more ++ replicate (begun_most - count) 0
+
+    pub hold_law : {part z : List ℕ} → part ≡ more → z ≡ replicate (length (take (length (followed part) - count) (drop count (followed part)))) 0
+        → put_mid count_bytes begun_most counted (put_mid count (length (followed part) - count) (followed part) z) ≡ holds k n stays more
+    hold_law {part} {z} e f =
+        let l : length (followed part) ≡ begun_most = ap (λ (p : List ℕ). length (followed p)) e ∙ followed_length in
+        let m : length (take (length (followed part) - count) (drop count (followed part))) ≡ begun_most - count =
+        omega (arith, length-take (length (followed part) - count) (drop count (followed part)), length-drop count (followed part)) in
+        let d : drop begun_most (drop count_bytes k) ≡ [] = drop_of_length-le (drop count_bytes k) {i = begun_most} (omega (arith, length-drop count_bytes k)) in
+        let q : put_mid count (length (followed part) - count) (followed part) z ≡ (take stays bytes ++ more) ++ z =
+        parts_stored bytes more z stays (let b = ap length bytes_stay in omega (arith, length-drop count_bytes k)) refl (ap followed e) in
+        let zeros : z ≡ replicate (begun_most - count) 0 = f ∙ ap (λ (j : ℕ). replicate j 0) m in
+        let y : put_mid count (length (followed part) - count) (followed part) z ≡ padded =
+        q ∙ (λ i. (take stays (bytes_stay i) ++ more) ++ zeros i) in
+        let stored : put_mid count_bytes begun_most counted (put_mid count (length (followed part) - count) (followed part) z) ≡ n ∷ count ∷ (padded ++ []) =
+        (λ i. put_mid count_bytes begun_most (counts_stored k n count (omega arith) i) (y i)) ∙ (λ i. n ∷ count ∷ (padded ++ d i)) in
+        stored ∙ (λ i. n ∷ count ∷ append-nil padded i) ∙ (λ i. n ∷ sym with_length i ∷ (begun_with k stays more ++ replicate (begun_most - sym with_length i) 0))
+
+-- ---- how many bytes of a begun record there are
+
+pub begun_length : (k : List ℕ) → length k ≡ kept_bytes → length (begun k) ≤ begun_most
+begun_length k w = omega (arith, length-take (begun_count k) (drop count_bytes k), length-drop count_bytes k)
 
 -- so many of the bytes kept are the begun record
 pub begun_again : (k : List ℕ) → take (length (begun k)) (drop count_bytes k) ≡ begun k

@@ -1,4 +1,5 @@
 pub mod Bytes
+pub mod Heading
 pub mod AtHand
 pub mod Feeding
 pub mod Answers

@@ -1,68 +1,33 @@
 // The header, as much of it as a piece has.
-ghost use Rattle.std.specs.Prelude.{◌≡◌, ◌&&◌, ◌+◌, ◌-◌, ◌<◌, ◌≤◌, min, eqb, leb, length};
-ghost use Rattle.laws.specs.Choice.{at};
-ghost use Rattle.laws.specs.Search.{all_below};
-ghost use Rattle.model.specs.Sizes.{header_bytes, begun_most, kept_bytes};
-ghost use Rattle.model.specs.Journal.{header};
-ghost use Rattle.model.specs.Pieces.{is_journal};
+ghost use Rattle.std.specs.Prelude.{◌≡◌};
+ghost use Rattle.model.specs.Pieces.{header_part, is_journal};
 
-use super::kept::{BEGUN, begun_count, header_count};
+use super::Kept;
+use super::kept::{BEGUN, BEGUN_COUNT, HEADER_COUNT};
 use reader::HEADER;
 
-pub(crate) fn smaller(a: usize, b: usize) -> usize
-    ensures { result ≡ min a b }
-{
-    if a < b { a } else { b }
-}
+const HEADER_BYTES: [u8; HEADER] = *b"RPJ\x01\x00\x00\x00\x00";
 
-// How many bytes of a piece of so many are the header's, after `taken`.
-pub(crate) fn header_part(taken: usize, size: usize) -> usize
-    ensures { result ≡ min (header_bytes - taken) size }
+// How many bytes of the piece are the header's.
+pub(crate) fn header_bytes(k: &Kept, piece: &[u8]) -> usize
+    ensures { result ≡ header_part k.now piece.now }
 {
-    if taken < HEADER {
-        return smaller(HEADER - taken, size);
-    }
-    0
-}
-
-fn header_byte(i: usize) -> u8
-    requires { i < header_bytes }
-    ensures { result ≡ at header i }
-{
-    let header = b"RPJ\x01\x00\x00\x00\x00";
-    header[i]
-}
-
-// The first n bytes of the piece are the header's, from `taken` on.
-fn goes_on(taken: usize, piece: &[u8], n: usize) -> bool
-    requires { (taken + n ≤ header_bytes) × (n ≤ length piece.now) }
-    ensures { result ≡ all_below n (λ i. eqb (at piece.now i) (at header (taken + i))) }
-{
-    for i in 0..n {
-        if piece[i] != header_byte(taken + i) {
-            return false;
-        }
-    }
-    true
-}
-
-fn counts_in_range(taken: usize, held: usize) -> bool
-    ensures { result ≡ (leb taken header_bytes && leb held begun_most) }
-{
-    (taken <= HEADER) & (held <= BEGUN)
+    HEADER
+        .saturating_sub(usize::from(k[HEADER_COUNT]))
+        .min(piece.len())
 }
 
 // What is kept, and the piece, may be a journal's.
-pub(crate) fn is_journal(k: &[u8], piece: &[u8], last: bool) -> bool
-    requires { length k.now ≡ kept_bytes }
+pub(crate) fn is_journal(k: &Kept, piece: &[u8], last: bool) -> bool
     ensures { result ≡ is_journal k.now piece.now last }
 {
-    let taken = header_count(k);
-    let n = header_part(taken, piece.len());
-    if counts_in_range(taken, begun_count(k)) {
-        let right = goes_on(taken, piece, n);
-        let short = taken + n < HEADER;
-        return right & !(last & short);
+    let taken = usize::from(k[HEADER_COUNT]);
+    if taken > HEADER || usize::from(k[BEGUN_COUNT]) > BEGUN {
+        return false;
     }
-    false
+    let end = taken + header_bytes(k, piece);
+    if last && end < HEADER {
+        return false;
+    }
+    piece.starts_with(&HEADER_BYTES[taken..end])
 }

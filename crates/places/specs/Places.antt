@@ -1,6 +1,6 @@
 -- What rules 1, 2, 3, 5 and 6 test at one place of a state. A place's number is the model's.
 -- Assumes nothing.
-use Rattle.std.specs.Prelude.{Bool, ◌&&◌, ◌||◌, not, ℕ, ◌+◌, ◌*◌, ◌/◌, ◌%◌, ltb, leb, eqb}
+use Rattle.std.specs.Prelude.{Bool, ◌&&◌, ◌||◌, not, Option, Some, None, ℕ, zero, suc, ◌+◌, ◌*◌, ◌/◌, ◌%◌, ltb, leb, eqb}
 use Rattle.std.specs.Bool.{beq}
 use Rattle.laws.specs.Choice.{at, ◌⇒◌}
 use Rattle.laws.specs.Bits.{marks}
@@ -9,7 +9,14 @@ use Rattle.model.specs.Sizes.{guests, physicals, addresses, stealth, first_host_
 use Rattle.model.specs.Names.{owner_none, owner_host, owner_guest, kind_none, kind_data, kind_table, running}
 use Rattle.model.specs.State.{State, lead, is_page}
 use Rattle.model.specs.RuleTests.{leads_to, stored, fits}
+use Rattle.numbers.specs.declared.Guest.{Guest}
 use Rattle.numbers.specs.Lead.{lead_of, leads_at}
+
+-- the guest that an owner's number stands for, there or not
+abbrev pub guest_of : ℕ → Option Guest
+guest_of zero = None
+guest_of (suc zero) = None
+guest_of (suc (suc g)) = Some (record { 0 = g })
 
 -- 3, at a physical address: the page there is the guest's, and stands at no other of its addresses
 unfoldable pub held_by : State → ℕ → ℕ → ℕ → Bool

@@ -2,36 +2,33 @@
 #![tactic(auto)]
 
 ghost use Rattle.std.specs.Prelude.{◌≡◌, ◌+◌, ◌/◌, ◌%◌, ◌<◌};
+ghost use Rattle.laws.specs.Choice.{at};
 ghost use Rattle.model.specs.RuleTests.{stored, fits};
 ghost use Rattle.host.specs.View.{view};
 ghost use Rattle.numbers.specs.Calls.{bytes_of};
-ghost use Rattle.places.specs.Places.{held_by, held_once, registered_at, current_table, stealth_cacheable, call_kept, page_of, page_kept};
+ghost use Rattle.places.specs.Places.{guest_of, held_once, registered_at, current_table, stealth_cacheable, call_kept, page_kept};
 
 use host::{
-    CACHEABLE, CALL_NEW, CALLS, Call, FIRST_FREE_PAGE, FIRST_HOST_PAGE, Guest, Host, KIND_DATA,
-    KIND_NONE, KIND_TABLE, Lead, Ma, OWNER_GUEST, OWNER_HOST, OWNER_NONE, Pa, RUNNING, STEALTH, Va,
+    CACHEABLE, CALL_NEW, CALLS, Call, CallBytes, FIRST_FREE_PAGE, FIRST_HOST_PAGE, Guest, Host,
+    KIND_DATA, KIND_NONE, KIND_TABLE, Ma, OWNER_GUEST, OWNER_HOST, OWNER_NONE, Pa, RUNNING,
+    STEALTH, Va,
 };
+use seek::implies;
 
 const GUESTS: u8 = host::GUESTS as u8;
 
-const PAGES: u8 = host::PAGES as u8;
-
 const PHYSICALS: u8 = host::PHYSICALS as u8;
-
-// The owner's number of guest 0.
-const FIRST_GUEST: usize = OWNER_GUEST as usize;
 
 fn stored_call(x: Call) -> bool
     ensures { result ≡ stored (bytes_of x).number }
 {
-    let n = host::bytes_of(x);
-    (n.number >= CALL_NEW) & (n.number < CALLS)
+    (CALL_NEW..CALLS).contains(&CallBytes::from(x).number)
 }
 
 pub fn fits_call(x: Call) -> bool
     ensures { result ≡ fits (bytes_of x).number (bytes_of x).a (bytes_of x).b }
 {
-    let n = host::bytes_of(x);
+    let n = CallBytes::from(x);
     records::within_of(records::kind_of_call(n.number), n.a, n.b)
 }
 
@@ -41,50 +38,34 @@ pub fn call_kept(h: &Host, g: Guest) -> bool
     let x = host::pending(h, g);
     let stored = stored_call(x);
     let fits = fits_call(x);
-    let a = host::active(h);
-    let idle = seek::implies((g.0 == a.0) & (host::mode(h) == RUNNING), !stored);
-    idle & seek::implies(stored, fits)
-}
-
-fn page_of(p: Ma, o: u8, k: u8, c: u8, v: u32, free: bool) -> bool
-    ensures { result ≡ page_of p.0 o k c v free }
-{
-    let place = ((p.0 >= FIRST_HOST_PAGE) & (p.0 < FIRST_FREE_PAGE)) == (o == OWNER_HOST);
-    let hosts = seek::implies(
-        o == OWNER_HOST,
-        (k == KIND_DATA) & (c == CACHEABLE) & (v == 0),
-    );
-    let none = seek::implies(
-        o == OWNER_NONE,
-        (k == KIND_NONE) & (c == CACHEABLE) & (v == 0),
-    );
-    let marked = free == (o == OWNER_NONE);
-    let guests = seek::implies(
-        (o >= OWNER_GUEST) & (o < OWNER_GUEST + GUESTS),
-        (k == KIND_DATA) | (k == KIND_TABLE),
-    );
-    let table = seek::implies(k == KIND_TABLE, (c == CACHEABLE) & (v == 0));
-    place & hosts & none & marked & guests & table
+    let idle = implies((g == host::active(h)) & (host::mode(h) == RUNNING), !stored);
+    idle & implies(stored, fits)
 }
 
 pub fn page_kept(h: &Host, p: Ma) -> bool
     ensures { result ≡ page_kept (view h.now) p.0 }
 {
-    page_of(
-        p,
-        host::owner(h, p),
-        host::kind(h, p),
-        host::cacheable(h, p),
-        host::memory(h, p),
-        host::is_free(h, p),
-    )
+    let owner = host::owner(h, p);
+    let kind = host::kind(h, p);
+    let cacheable = host::cacheable(h, p) == CACHEABLE;
+    let zero = host::memory(h, p) == 0;
+    let place = (FIRST_HOST_PAGE..FIRST_FREE_PAGE).contains(&p.0) == (owner == OWNER_HOST);
+    let hosts = implies(owner == OWNER_HOST, (kind == KIND_DATA) & cacheable & zero);
+    let none = implies(owner == OWNER_NONE, (kind == KIND_NONE) & cacheable & zero);
+    let marked = host::is_free(h, p) == (owner == OWNER_NONE);
+    let guests = implies(
+        (OWNER_GUEST..OWNER_GUEST + GUESTS).contains(&owner),
+        (kind == KIND_DATA) | (kind == KIND_TABLE),
+    );
+    let table = implies(kind == KIND_TABLE, cacheable & zero);
+    place & hosts & none & marked & guests & table
 }
 
-fn held_by(h: &Host, g: Guest, a: Pa, p: Ma) -> bool
-    ensures { result ≡ held_by (view h.now) g.0 a.0 p.0 }
+// The guest that owns the page, if one does; there may be none of its number.
+fn owning_guest(h: &Host, p: Ma) -> Option<Guest>
+    ensures { result ≡ guest_of (at (view h.now).shape.pages.owner p.0) }
 {
-    let again = seek::held(h, seek::Sought::HeldAgain(g, a, p));
-    (host::owner(h, p) as usize == FIRST_GUEST + g.0 as usize) & !again
+    host::owner(h, p).checked_sub(OWNER_GUEST).map(Guest)
 }
 
 pub fn held(h: &Host, i: u8) -> bool
@@ -92,43 +73,30 @@ pub fn held(h: &Host, i: u8) -> bool
 {
     let g = Guest(i / PHYSICALS);
     let a = Pa(i % PHYSICALS);
-    let l = host::physical(h, g, a);
-    match l {
-        Lead::To(p) => held_by(h, g, a, p),
-        Lead::Nowhere => host::physical_empty(h, g, a),
+    match host::physical(h, g, a) {
+        Some(p) => (owning_guest(h, p) == Some(g)) & !seek::held_away(h, g, a, p),
+        None => host::physical_empty(h, g, a),
     }
 }
 
 pub fn registered(h: &Host, p: Ma) -> bool
     ensures { result ≡ registered_at (view h.now) p.0 }
 {
-    let o = host::owner(h, p);
-    if o < OWNER_GUEST {
-        return true;
-    }
-    let g = o - OWNER_GUEST;
-    if g < GUESTS {
-        seek::held(h, seek::Sought::HeldAt(Guest(g), p))
-    } else {
-        true
-    }
+    owning_guest(h, p).is_none_or(|g| g.0 >= GUESTS || seek::held(h, g, p))
 }
 
 pub fn current_table(h: &Host, g: Guest) -> bool
     ensures { result ≡ current_table (view h.now) g.0 }
 {
     let a = host::current(h, g);
-    let m = host::place(host::physical(h, g, a));
-    (a.0 < PHYSICALS)
-        & (m.0 < PAGES)
-        & (host::kind(h, m) == KIND_TABLE)
-        & (host::owner(h, m) as usize == FIRST_GUEST + g.0 as usize)
+    let own = host::physical(h, g, a).is_some_and(|m| (host::kind(h, m) == KIND_TABLE)
+        & (owning_guest(h, m) == Some(g)));
+    (a.0 < PHYSICALS) & own
 }
 
 pub fn stealth_cacheable(h: &Host, m: Ma) -> bool
     ensures { result ≡ stealth_cacheable (view h.now) m.0 }
 {
-    let p = host::place(host::entry(h, m, Va(STEALTH)));
-    let mapped = (host::kind(h, m) == KIND_TABLE) & (p.0 < PAGES);
-    seek::implies(mapped, host::cacheable(h, p) == CACHEABLE)
+    let kept = host::entry(h, m, Va(STEALTH)).is_none_or(|p| host::cacheable(h, p) == CACHEABLE);
+    implies(host::kind(h, m) == KIND_TABLE, kept)
 }

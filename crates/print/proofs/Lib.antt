@@ -1,3 +1,4 @@
 pub mod Typing
+pub mod Pages
 pub mod Decimal
 pub mod Answers

@@ -1,89 +1,73 @@
-// Text into lent bytes, from a place on: a byte, bytes, a number in decimal. Each answers the place after it; what has no room is left out.
+// Text typed into a lent buffer, from its start on: a byte, a text, a number in decimal. What has no room is left out.
+//
+//     let mut page = Page::new(out);
+//     page.text("refused ");
+//     page.number(16);
+//     page.byte(b'\n');
+//     Printed { bytes: page.place(), status: Status::TurnedAway }
+//
+// A function that types on its caller's page takes `page: &mut Page` and promises `page.new ≡ typed_all_on page.old ..`; by the attribute
+// `#[tactic(auto, using(print::proofs::Pages::typing))]` it mostly needs no proof file. One that makes the page promises
+// `page out.new result.bytes ≡ typed_all (page out.old 0) ..`, with `#[tactic(auto, unfolding(print::specs::Pages::typed_all_on))]`.
 #![tactic(auto)]
 
-ghost use Rattle.std.specs.Prelude.{◌≡◌, ◌^◌, ◌<◌};
-ghost use Rattle.print.specs.Text.{page, typed, typed_all, digit, places_of, decimal_of};
+mod status; // status.rt: with which status a program ends that prints a page
 
-// The digits of a number of 64 bits.
-const PLACES: usize = 20;
+ghost use Rattle.std.specs.Prelude.{◌≡◌};
+ghost use Rattle.print.specs.Text.{decimal_of};
+ghost use Rattle.print.specs.Pages.{blank, typed_on, typed_all_on};
 
-const POWERS: [u64; PLACES] = [
-    1,
-    10,
-    100,
-    1000,
-    10000,
-    100000,
-    1000000,
-    10000000,
-    100000000,
-    1000000000,
-    10000000000,
-    100000000000,
-    1000000000000,
-    10000000000000,
-    100000000000000,
-    1000000000000000,
-    10000000000000000,
-    100000000000000000,
-    1000000000000000000,
-    10000000000000000000,
-];
+pub use status::{Printed, Status};
 
-fn power(i: usize) -> u64
-    requires { i < 20 }
-    ensures { result ≡ 10 ^ i }
-{
-    POWERS[i]
+// The lent buffer, and the place where the next byte goes. No `fmt::Write`: `write!` answers a Result, and what could not fail still cannot.
+#[derive(Drop)]
+pub struct Page<'a> {
+    out: &'a mut [u8],
+    place: usize,
 }
 
-fn digit_at(n: u64, i: usize) -> u8
-    requires { i < 20 }
-    ensures { result ≡ digit n i }
-{
-    48 + (n / power(i) % 10) as u8
-}
-
-fn places(n: u64) -> usize
-    ensures { (result ≡ places_of n) × (result < 21) }
-{
-    let mut k = 1;
-    while k < PLACES && power(k) <= n {
-        k = k + 1;
+impl<'a> Page<'a> {
+    pub fn new(out: &'a mut [u8]) -> Page<'a>
+        ensures { result ≡ blank out.entry }
+    {
+        Page { out, place: 0 }
     }
-    k
-}
 
-pub fn byte(out: &mut [u8], at: usize, x: u8) -> usize
-    ensures { page out.new result ≡ typed (page out.old at) x }
-{
-    if at < out.len() {
-        out[at] = x;
-        at + 1
-    } else {
-        at
+    // So many bytes are typed.
+    pub fn place(&self) -> usize
+        ensures { result ≡ self.now.place }
+    {
+        self.place
     }
-}
 
-pub fn text(out: &mut [u8], at: usize, s: &[u8]) -> usize
-    ensures { page out.new result ≡ typed_all (page out.old at) s.now }
-{
-    let mut to = at;
-    for i in 0..s.len() {
-        to = byte(out, to, s[i]);
+    #[tactic(auto, unfolding(crate::specs::Pages::typed_on))]
+    pub fn byte(&mut self, x: u8)
+        ensures { self.new ≡ typed_on self.old x }
+    {
+        if self.place < self.out.len() {
+            self.out[self.place] = x;
+            self.place += 1;
+        }
     }
-    to
-}
 
-// In decimal.
-pub fn number(out: &mut [u8], at: usize, n: u64) -> usize
-    ensures { page out.new result ≡ typed_all (page out.old at) (decimal_of n) }
-{
-    let mut to = at;
-    let mut i = places(n);
-    while i > 0 {
-        i = i - 1;
-        to = byte(out, to, digit_at(n, i));
+    pub fn bytes(&mut self, s: &[u8])
+        ensures { self.new ≡ typed_all_on self.old s.now }
+    {
+        for &x in s {
+            self.byte(x);
+        }
     }
-    to
+
+    pub fn text(&mut self, s: &str)
+        ensures { self.new ≡ typed_all_on self.old s.now }
+    {
+        self.bytes(s.as_bytes());
+    }
+
+    // In decimal.
+    pub fn number(&mut self, n: u64)
+        ensures { self.new ≡ typed_all_on self.old (decimal_of n) }
+    {
+        self.text(itoa::Buffer::new().format(n));
+    }
 }

@@ -8,9 +8,10 @@ ghost use Rattle.seek.specs.Leads.{placed};
 ghost use Rattle.ranges.specs.Ranges.{page_in_range, place_in_range, guest_in_range, line_in_range, set_in_range, slot_in_range, entry_in_range, number_in_range};
 
 use host::{
-    CALL_A_BOUND, CALL_B_BOUND, CALLS, Guest, HISTORIES, Host, KIND_TABLE, Lead, MARKS, Ma,
+    CALL_A_BOUND, CALL_B_BOUND, CALLS, CallBytes, Guest, HISTORIES, Host, KIND_TABLE, MARKS, Ma,
     OWNER_GUEST, POLICIES, Pa, RUNNING, Va,
 };
+use seek::implies;
 
 const ADDRESSES: u8 = host::ADDRESSES as u8;
 
@@ -21,20 +22,17 @@ const PAGES: u8 = host::PAGES as u8;
 const PHYSICALS: u8 = host::PHYSICALS as u8;
 
 // A page or empty.
-fn placed_at(l: Lead, empty: bool) -> bool
+fn placed_at(l: Option<Ma>, empty: bool) -> bool
     ensures { result ≡ placed l empty }
 {
-    match l {
-        Lead::To(_) => true,
-        Lead::Nowhere => empty,
-    }
+    l.is_some() | empty
 }
 
 pub fn page_in_range(h: &Host, p: Ma) -> bool
     ensures { result ≡ page_in_range (view h.now) p.0 }
 {
     (host::owner(h, p) < OWNER_GUEST + GUESTS)
-        & (host::kind(h, p) < KIND_TABLE + 1)
+        & (host::kind(h, p) <= KIND_TABLE)
         & (host::cacheable(h, p) < MARKS)
 }
 
@@ -58,7 +56,7 @@ pub fn guest_in_range(h: &Host, g: Guest) -> bool
 {
     let t = host::current(h, g);
     let x = host::pending(h, g);
-    let n = host::bytes_of(x);
+    let n = CallBytes::from(x);
     (t.0 < PHYSICALS)
         & (n.number < CALLS)
         & (n.a < CALL_A_BOUND)
@@ -73,7 +71,7 @@ pub fn line_zero(h: &Host, i: u8) -> bool
     let k = i as usize;
     let a = host::line_address(h, k);
     let empty = host::line_empty(h, k);
-    seek::implies(empty, (a.0 == 0) & (host::line_value(h, k) == 0))
+    implies(empty, (a.0 == 0) & (host::line_value(h, k) == 0))
 }
 
 pub fn line_in_range(h: &Host, i: u8) -> bool
@@ -98,7 +96,7 @@ pub fn slot_zero(h: &Host, i: u8) -> bool
 {
     let k = i as usize;
     let a = host::slot_address(h, k);
-    seek::implies(host::slot_empty(h, k), a.0 == 0)
+    implies(host::slot_empty(h, k), a.0 == 0)
 }
 
 pub fn slot_in_range(h: &Host, i: u8) -> bool
@@ -119,6 +117,7 @@ pub fn entry_in_range(h: &Host, m: Ma, a: Va) -> bool
 
 // ---- a number by its field
 
+// Numbers of docs/STATE.md: a field is no enum, since number_in_range answers for every number.
 const ACTIVE: u8 = 10;
 
 const MODE: u8 = 11;
@@ -150,19 +149,13 @@ const BOUNDS: [u8; 17] = [
 pub fn number_in_range(h: &Host, field: u8, i: u16) -> bool
     ensures { result ≡ number_in_range (view h.now) field i }
 {
-    if field == ACTIVE {
-        let a = host::active(h);
-        return a.0 < GUESTS;
-    }
-    if field == MODE {
-        return host::mode(h) < RUNNING + 1;
-    }
-    if field == POLICY {
-        return host::policy(h) < POLICIES;
-    }
     let k = field as usize;
-    if k < BOUNDS.len() {
-        return host::is_below(h, k, i as usize, BOUNDS[k]);
+    match field {
+        ACTIVE => host::active(h).0 < GUESTS,
+        MODE => host::mode(h) <= RUNNING,
+        POLICY => host::policy(h) < POLICIES,
+        _ => BOUNDS
+            .get(k)
+            .is_none_or(|bound| host::is_below(h, k, i as usize, *bound)),
     }
-    true
 }

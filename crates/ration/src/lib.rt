@@ -4,26 +4,31 @@
 
 mod report; // report.rt: the bytes of a report
 
-ghost use Rattle.std.specs.Prelude.{◌≡◌};
+ghost use Rattle.std.specs.Prelude.{◌≡◌, ◌<◌, ◌≤◌, IfOk, IfErr};
 ghost use Rattle.laws.specs.Search.{count_below};
 ghost use Rattle.laws.specs.Bits.{marks};
-ghost use Rattle.model.specs.Sizes.{pages, answer_bytes, kept_bytes};
+ghost use Rattle.model.specs.Sizes.{pages, policies, answer_bytes, kept_bytes};
 ghost use Rattle.model.specs.Fresh.{fresh};
 ghost use Rattle.model.specs.Valid.{valid?};
 ghost use Rattle.model.specs.Image.{image_bytes};
 ghost use Rattle.model.specs.Pieces.{beginning};
 ghost use Rattle.host.specs.View.{bytes as state_bytes, view};
+ghost use Rattle.host.specs.Policies.{policy_number};
+ghost use Rattle.numbers.specs.Refusals.{code_of};
+ghost use Rattle.numbers.specs.declared.refusal.Refusal.TheVariants.{NotValid};
 ghost use Rattle.ration.specs.Promises.{report_size, StartsBytes, StepsBytes, RunsBytes, LoadsBytes, SavesBytes, OpensBytes, ChecksBytes, FeedsBytes};
 
 use host::{Host, WritePolicy};
-use pieces::Kept;
+use numbers::{Refusal, code_of};
+use pieces::{Fed, Kept};
 pub use report::REPORT;
 use report::put_report;
 
-// What starting with a policy answers: done, or the number of a state that is not valid.
-const DONE: u8 = 0;
-
-const NOT_VALID: u8 = 1;
+// What a refused piece has.
+const NOTHING: Fed = Fed {
+    records: 0,
+    bytes: 0,
+};
 
 // The bytes of a state.
 pub fn ration_size() -> usize
@@ -67,19 +72,29 @@ pub fn ration_fresh(h: &mut Host)
     host::fresh(h);
 }
 
+fn policy_of(byte: u8) -> Result<WritePolicy, Refusal>
+    ensures policy { IfOk result (λ p. (byte < policies) × (policy_number p ≡ byte)) }
+    ensures other { IfErr result (λ e. (policies ≤ byte) × (e ≡ NotValid)) }
+{
+    match byte {
+        host::WRITE_BACK => Ok(WritePolicy::Back),
+        host::WRITE_THROUGH => Ok(WritePolicy::Through),
+        _ => Err(Refusal::NotValid),
+    }
+}
+
+fn start(h: &mut Host, policy: u8) -> Result<(), Refusal>
+    ensures { StartsBytes (view h.old) policy (code_of result) (view h.new) }
+{
+    host::fresh_with(h, policy_of(policy)?);
+    Ok(())
+}
+
 // The fresh machine with a policy, whatever the bytes were: 0, or 1 for a byte that is no policy.
 pub fn ration_fresh_with(h: &mut Host, policy: u8) -> u8
     ensures { StartsBytes (view h.old) policy result (view h.new) }
 {
-    if policy == host::WRITE_BACK {
-        host::fresh_with(h, WritePolicy::Back);
-        return DONE;
-    }
-    if policy == host::WRITE_THROUGH {
-        host::fresh_with(h, WritePolicy::Through);
-        return DONE;
-    }
-    NOT_VALID
+    code_of(start(h, policy))
 }
 
 // The policy of the state.
@@ -107,40 +122,35 @@ pub fn ration_free_pages(h: &Host) -> u32
 pub fn ration_step(h: &mut Host, bytes: &[u8], answer: &mut [u8; steps::ANSWER])
     ensures { StepsBytes (view h.old) bytes.now (view h.new) answer.new }
 {
-    let a = steps::step(h, bytes);
-    steps::put_answer(answer, a);
+    steps::put_answer(answer, steps::step(h, bytes));
 }
 
 // A journal, run or refused; its answers, and its report's twenty bytes.
 pub fn ration_run(h: &mut Host, journal: &[u8], answers: &mut [u8], report: &mut [u8; REPORT])
     ensures { RunsBytes (view h.old) journal.now answers.old (view h.new) answers.new report.new }
 {
-    let v = journal::run(h, journal, answers);
-    put_report(report, v);
+    put_report(report, journal::run(h, journal, answers));
 }
 
 // The state, saved to the lent bytes as its image: 0, or the refusal's number.
 pub fn ration_save(h: &Host, image: &mut [u8]) -> u8
     ensures { SavesBytes (view h.now) image.old result image.new }
 {
-    let saved = image::save(h, image);
-    image::number(saved)
+    code_of(image::save(h, image))
 }
 
 // The state that the image holds, loaded whatever the state was: 0, or the refusal's number.
 pub fn ration_load(h: &mut Host, image: &[u8]) -> u8
     ensures { LoadsBytes (view h.old) image.now result (view h.new) }
 {
-    let loaded = image::load(h, image);
-    image::number(loaded)
+    code_of(image::load(h, image))
 }
 
 // The state that the image holds, whatever that is, for a state that is to be checked: 0, or 16 and the state stays.
 pub fn ration_open(h: &mut Host, image: &[u8]) -> u8
     ensures { OpensBytes (view h.old) image.now result (view h.new) }
 {
-    let opened = image::open(h, image);
-    image::number(opened)
+    code_of(image::open(h, image))
 }
 
 // What a check says of a rule: 0 it holds, 1 it is broken, 2 there is no such rule; and the first part and place where it is broken, 0 without one.
@@ -173,8 +183,11 @@ pub fn ration_feed(
 ) -> u8
     ensures { FeedsBytes (view h.old) kept.old piece.now allowance last answers.old result (view h.new) kept.new answers.new records.new bytes.new }
 {
-    let fed = pieces::feed(h, kept, piece, allowance, last, answers);
+    let (number, fed) = match pieces::feed(h, kept, piece, allowance, last, answers) {
+        Ok(fed) => (0, fed),
+        Err(refusal) => (u8::from(refusal), NOTHING),
+    };
     *records = fed.records;
     *bytes = fed.bytes;
-    fed.number
+    number
 }

@@ -1,63 +1,64 @@
 // A report as bytes: five numbers of 32 bits, low byte first: the verdict's number, taken, accepted, refused, left over.
-ghost use Rattle.std.specs.Prelude.{◌≡◌, ◌++◌, length};
+ghost use Rattle.std.specs.Prelude.{◌≡◌, ◌++◌};
 ghost use Rattle.model.specs.Records.{word_bytes};
-ghost use Rattle.print.specs.Text.{page, typed_all};
+ghost use Rattle.model.specs.Journal.{verdict_number, report_of};
+ghost use Rattle.print.specs.Pages.{typed_all_on};
 ghost use Rattle.journal.specs.Promises.{verdict_from, report_from};
-ghost use Rattle.ration.specs.Promises.{report_size, counts_bytes, report_bytes_of};
+ghost use Rattle.ration.specs.Promises.{counts_bytes, report_bytes_of};
 
-use journal::{Report, Verdict};
+use journal::Report;
+use numbers::Refusal;
+use print::Page;
 
 pub const REPORT: usize = 20;
 
-fn put_word(out: &mut [u8], at: usize, v: usize) -> usize
-    ensures { page out.new result ≡ typed_all (page out.old at) (word_bytes v) }
+// What a refused journal has.
+const NOTHING: Report = Report {
+    taken: 0,
+    accepted: 0,
+    refused: 0,
+    left_over: 0,
+};
+
+// The low 32 bits, low byte first.
+#[tactic(auto, using(print::proofs::Pages::typing))]
+fn put_word(page: &mut Page, v: usize)
+    ensures { page.new ≡ typed_all_on page.old (word_bytes v) }
 {
-    let a = print::byte(out, at, (v % 256) as u8);
-    let b = print::byte(out, a, (v / 256 % 256) as u8);
-    let c = print::byte(out, b, (v / 65536 % 256) as u8);
-    print::byte(out, c, (v / 16777216 % 256) as u8)
+    let [a, b, c, d, ..] = v.to_le_bytes();
+    page.byte(a);
+    page.byte(b);
+    page.byte(c);
+    page.byte(d);
 }
 
-fn put_counts(out: &mut [u8], at: usize, r: Report) -> usize
-    ensures { page out.new result ≡ typed_all (page out.old at) (counts_bytes (report_from r)) }
+#[tactic(auto, using(print::proofs::Pages::typing))]
+fn put_numbers(page: &mut Page, number: u8, r: Report)
+    ensures { page.new ≡ typed_all_on page.old (word_bytes number ++ counts_bytes (report_from r)) }
 {
-    let a = put_word(out, at, r.taken);
-    let b = put_word(out, a, r.accepted);
-    let c = put_word(out, b, r.refused);
-    put_word(out, c, r.left_over)
+    put_word(page, number as usize);
+    put_word(page, r.taken);
+    put_word(page, r.accepted);
+    put_word(page, r.refused);
+    put_word(page, r.left_over);
 }
 
-// All of a report's bytes.
-fn put_numbers(out: &mut [u8], n: u8, r: Report)
-    requires { length out.old ≡ report_size }
-    ensures { out.new ≡ word_bytes n ++ counts_bytes (report_from r) }
+// The number and the counts.
+fn numbers_of(ran: Result<Report, Refusal>) -> (u8, Report)
+    ensures number { result.0 ≡ verdict_number (verdict_from ran) }
+    ensures counts { report_from result.1 ≡ report_of (verdict_from ran) }
 {
-    let at = put_word(out, 0, n as usize);
-    put_counts(out, at, r);
-}
-
-// Over a part, so that its length is known.
-fn put_all(out: &mut [u8], v: Verdict)
-    requires { length out.old ≡ report_size }
-    ensures { out.new ≡ report_bytes_of (verdict_from v) }
-{
-    match v {
-        Verdict::Done(r) => put_numbers(out, 0, r),
-        Verdict::Refused(n) => put_numbers(
-            out,
-            n,
-            Report {
-                taken: 0,
-                accepted: 0,
-                refused: 0,
-                left_over: 0,
-            },
-        ),
+    match ran {
+        Ok(r) => (0, r),
+        Err(refusal) => (u8::from(refusal), NOTHING),
     }
 }
 
-pub(crate) fn put_report(out: &mut [u8; REPORT], v: Verdict)
-    ensures { out.new ≡ report_bytes_of (verdict_from v) }
+// All of a report's bytes.
+pub(crate) fn put_report(out: &mut [u8; REPORT], ran: Result<Report, Refusal>)
+    ensures { out.new ≡ report_bytes_of (verdict_from ran) }
 {
-    put_all(out, v);
+    let (number, r) = numbers_of(ran);
+    let mut page = Page::new(out);
+    put_numbers(&mut page, number, r);
 }

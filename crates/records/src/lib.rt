@@ -1,49 +1,52 @@
 // Records: the table of kinds (mode, call needed, limits of a and b), and the action that a record's eight bytes are.
 #![tactic(auto)]
 
-ghost use Rattle.std.specs.Prelude.{◌≡◌, ◌&&◌, ◌+◌, ◌*◌, ◌^◌, ◌<◌, ltb, leb, eqb};
+ghost use Rattle.std.specs.Prelude.{◌≡◌, ltb, eqb};
 ghost use Rattle.laws.specs.Choice.{pick};
-ghost use Rattle.model.specs.Sizes.{byte_bound, calls};
-ghost use Rattle.model.specs.Records.{row_of, kind_of_call, kind_hcall, has_value, well_formed, within, fields, action_of, decode};
+ghost use Rattle.model.specs.Sizes.{calls};
+ghost use Rattle.model.specs.Records.{row_of, kind_of_call, kind_hcall, limit_kind, has_value, well_formed, within, fields_in, action_of, decode};
 ghost use Rattle.records.specs.Table.{row_to};
-ghost use Rattle.records.specs.Actions.{action_to, decoded_of};
+ghost use Rattle.records.specs.Actions.{fields_from, action_to, decoded_of};
 
-use host::{
-    CALL_DEL, CALL_LSWITCH, CALL_NEW, CALL_PIN, CALL_UNPIN, CALLS, Call, CallBytes, Guest, Pa,
-    PinKind, Va,
-};
+use host::{CALLS, Call, CallBytes, Guest, Pa, PinKind, Va};
 
 // ---- the table
+
+// The mode that a kind needs.
+#[derive(Clone, Copy, PartialEq, Eq)]
+pub enum Mode {
+    Any,
+    Waiting,
+    Running,
+}
+
+// What a kind asks of pending calls: nothing; that the active guest's is exactly this one, with the record's a and b; that the active guest, or the
+// guest that a names, has none; that the guest that a names has one.
+#[derive(Clone, Copy, PartialEq, Eq)]
+pub enum Need {
+    Nothing,
+    New,
+    Del,
+    Lswitch,
+    Pin,
+    Unpin,
+    ActiveIdle,
+    NamedIdle,
+    NamedPending,
+}
 
 // What a kind asks: the mode; the call; a from a_from on and below a_below, and b likewise.
 #[derive(Clone, Copy)]
 pub struct Row {
-    pub mode: u8,
-    pub need: u8,
+    pub mode: Mode,
+    pub need: Need,
     pub a_from: u8,
     pub a_below: u8,
     pub b_from: u8,
     pub b_below: u8,
 }
 
-pub const WAITING: u8 = host::WAITING;
-
-pub const RUNNING: u8 = host::RUNNING;
-
-// Any mode will do.
-pub const ANY: u8 = 2;
-
-// What is asked of calls: nothing; 1 to 5, exactly this one, with the record's a and b; the active guest, or the guest that a names, has none; the
-// guest that a names has one.
-pub const NOTHING: u8 = 0;
-
-pub const ACTIVE_IDLE: u8 = 6;
-
-pub const NAMED_IDLE: u8 = 7;
-
-pub const NAMED_PENDING: u8 = 8;
-
-const KINDS: u8 = 16;
+const KINDS: usize = 16;
 
 const RECORD: usize = reader::RECORD;
 
@@ -63,169 +66,144 @@ const WRITE_HYPER: u8 = 4;
 
 const HCALL: u8 = 10;
 
-const ROWS: [Row; 16] = [
+// A row that asks nothing, of no arguments.
+const BARE: Row = Row {
+    mode: Mode::Any,
+    need: Need::Nothing,
+    a_from: 0,
+    a_below: 1,
+    b_from: 0,
+    b_below: 1,
+};
+
+const ROWS: [Row; KINDS] = [
     // silent
-    Row {
-        mode: ANY,
-        need: NOTHING,
-        a_from: 0,
-        a_below: 1,
-        b_from: 0,
-        b_below: 1,
-    },
+    BARE,
     // read
     Row {
-        mode: RUNNING,
-        need: NOTHING,
-        a_from: 0,
+        mode: Mode::Running,
         a_below: ADDRESSES,
-        b_from: 0,
-        b_below: 1,
+        ..BARE
     },
     // read_hyper
     Row {
-        mode: WAITING,
-        need: NOTHING,
-        a_from: 0,
+        mode: Mode::Waiting,
         a_below: ADDRESSES,
-        b_from: 0,
-        b_below: 1,
+        ..BARE
     },
     // write
     Row {
-        mode: RUNNING,
-        need: NOTHING,
-        a_from: 0,
+        mode: Mode::Running,
         a_below: ADDRESSES,
-        b_from: 0,
-        b_below: 1,
+        ..BARE
     },
     // write_hyper
     Row {
-        mode: WAITING,
-        need: NOTHING,
-        a_from: 0,
+        mode: Mode::Waiting,
         a_below: ADDRESSES,
-        b_from: 0,
-        b_below: 1,
+        ..BARE
     },
     // new
     Row {
-        mode: WAITING,
-        need: CALL_NEW,
-        a_from: 0,
+        mode: Mode::Waiting,
+        need: Need::New,
         a_below: ADDRESSES,
-        b_from: 0,
         b_below: PHYSICALS,
+        ..BARE
     },
     // new_sm
     Row {
-        mode: WAITING,
-        need: CALL_NEW,
+        mode: Mode::Waiting,
+        need: Need::New,
         a_from: STEALTH,
         a_below: STEALTH + 1,
-        b_from: 0,
         b_below: PHYSICALS,
+        ..BARE
     },
     // del
     Row {
-        mode: WAITING,
-        need: CALL_DEL,
-        a_from: 0,
+        mode: Mode::Waiting,
+        need: Need::Del,
         a_below: ADDRESSES,
-        b_from: 0,
-        b_below: 1,
+        ..BARE
     },
     // switch
     Row {
-        mode: WAITING,
-        need: NAMED_IDLE,
-        a_from: 0,
+        mode: Mode::Waiting,
+        need: Need::NamedIdle,
         a_below: GUESTS,
-        b_from: 0,
-        b_below: 1,
+        ..BARE
     },
     // lswitch
     Row {
-        mode: WAITING,
-        need: CALL_LSWITCH,
-        a_from: 0,
+        mode: Mode::Waiting,
+        need: Need::Lswitch,
         a_below: PHYSICALS,
-        b_from: 0,
-        b_below: 1,
+        ..BARE
     },
-    // hcall
+    // hcall: a and b as the call
     Row {
-        mode: RUNNING,
-        need: NOTHING,
-        a_from: 0,
-        a_below: 1,
-        b_from: 0,
-        b_below: 1,
+        mode: Mode::Running,
+        ..BARE
     },
     // ret_ctrl
     Row {
-        mode: RUNNING,
-        need: NOTHING,
-        a_from: 0,
-        a_below: 1,
-        b_from: 0,
-        b_below: 1,
+        mode: Mode::Running,
+        ..BARE
     },
     // chmod
     Row {
-        mode: WAITING,
-        need: ACTIVE_IDLE,
-        a_from: 0,
-        a_below: 1,
-        b_from: 0,
-        b_below: 1,
+        mode: Mode::Waiting,
+        need: Need::ActiveIdle,
+        ..BARE
     },
     // pin
     Row {
-        mode: WAITING,
-        need: CALL_PIN,
-        a_from: 0,
+        mode: Mode::Waiting,
+        need: Need::Pin,
         a_below: PHYSICALS,
-        b_from: 0,
         b_below: PIN_KINDS,
+        ..BARE
     },
     // unpin
     Row {
-        mode: WAITING,
-        need: CALL_UNPIN,
-        a_from: 0,
+        mode: Mode::Waiting,
+        need: Need::Unpin,
         a_below: PHYSICALS,
-        b_from: 0,
-        b_below: 1,
+        ..BARE
     },
     // drop
     Row {
-        mode: WAITING,
-        need: NAMED_PENDING,
-        a_from: 0,
+        mode: Mode::Waiting,
+        need: Need::NamedPending,
         a_below: GUESTS,
-        b_from: 0,
-        b_below: 1,
+        ..BARE
     },
 ];
 
-// The kind whose arguments a call has.
-const KIND_OF_CALL: [u8; 6] = [0, 5, 7, 9, 13, 14];
+// The kind whose arguments a call has: of none, those of silent.
+const KIND_OF_CALL: [u8; CALLS as usize] = [0, 5, 7, 9, 13, 14];
 
-// The row of kind k; past the last kind that of silent.
-pub fn row_of(k: u8) -> Row
-    ensures { result ≡ row_to (row_of k) }
+// The row of a kind; past the last kind that of silent. A kind stays the byte that it is in a record: what is promised holds of every byte.
+pub fn row_of(kind: u8) -> Row
+    ensures { result ≡ row_to (row_of kind) }
 {
-    let i = k as usize;
-    if k < KINDS { ROWS[i] } else { ROWS[0] }
+    *ROWS.get(usize::from(kind)).unwrap_or(&BARE)
 }
 
-pub fn kind_of_call(c: u8) -> u8
-    ensures { result ≡ kind_of_call c }
+// Past the last call it is 0, that of silent.
+pub fn kind_of_call(call: u8) -> u8
+    ensures { result ≡ kind_of_call call }
 {
-    let i = c as usize;
-    if c < CALLS { KIND_OF_CALL[i] } else { 0 }
+    *KIND_OF_CALL.get(usize::from(call)).unwrap_or(&0)
+}
+
+// a and b are within the limits of a kind.
+pub fn within_of(kind: u8, a: u8, b: u8) -> bool
+    ensures { result ≡ within (row_of kind) a b }
+{
+    let row = row_of(kind);
+    (row.a_from..row.a_below).contains(&a) && (row.b_from..row.b_below).contains(&b)
 }
 
 // ---- actions
@@ -250,123 +228,107 @@ pub enum Action {
     Drop(Guest),
 }
 
+// ---- the fields of a record
+
 #[derive(Clone, Copy)]
-pub enum Decoded {
-    Is(Action),
-    Bad,
+struct Fields {
+    kind: u8,
+    a: u8,
+    b: u8,
+    call: u8,
+    value: u32,
 }
 
-// ---- known kind and call, arguments in range, unused fields zero
-
-fn between(x: u8, from: u8, below: u8) -> bool
-    ensures { result ≡ (leb from x && ltb x below) }
-{
-    from <= x && x < below
-}
-
-// a and b are within the limits of kind k.
-pub fn within_of(k: u8, a: u8, b: u8) -> bool
-    ensures { result ≡ within (row_of k) a b }
-{
-    let w = row_of(k);
-    between(a, w.a_from, w.a_below) && between(b, w.b_from, w.b_below)
-}
-
-// Only hcall has a call.
-fn call_known(k: u8, c: u8) -> bool
-    ensures { result ≡ pick (eqb k kind_hcall) (ltb c calls) (eqb c 0) }
-{
-    if k == HCALL { c < CALLS } else { c == 0 }
-}
-
-// The kind whose limits the arguments keep: for hcall that of the call's action.
-fn limit_kind(k: u8, c: u8) -> u8
-    ensures { result ≡ pick (eqb k kind_hcall) (kind_of_call c) k }
-{
-    if k == HCALL { kind_of_call(c) } else { k }
-}
-
-// Only the two writes have a value.
-fn has_value(k: u8) -> bool
-    ensures { result ≡ has_value k }
-{
-    k == WRITE || k == WRITE_HYPER
-}
-
-fn well_formed(k: u8, a: u8, b: u8, c: u8, v: u32) -> bool
-    ensures { result ≡ well_formed (fields k a b c v) }
-{
-    if KINDS <= k {
-        return false;
+impl Fields {
+    // The value is four bytes, low byte first.
+    fn of(r: &[u8; RECORD]) -> Fields
+        ensures { fields_from result ≡ fields_in r.now }
+    {
+        let [kind, a, b, call, v0, v1, v2, v3] = *r;
+        let value = u32::from_le_bytes([v0, v1, v2, v3]);
+        Fields {
+            kind,
+            a,
+            b,
+            call,
+            value,
+        }
     }
-    if !call_known(k, c) {
-        return false;
+
+    // Only hcall has a call.
+    fn call_known(self) -> bool
+        ensures { result ≡ pick (eqb self.kind kind_hcall) (ltb self.call calls) (eqb self.call 0) }
+    {
+        if self.kind == HCALL {
+            self.call < CALLS
+        } else {
+            self.call == 0
+        }
     }
-    if !within_of(limit_kind(k, c), a, b) {
-        return false;
+
+    // The kind whose limits the arguments keep: for hcall that of the call's action.
+    fn limit_kind(self) -> u8
+        ensures { result ≡ limit_kind (fields_from self) }
+    {
+        if self.kind == HCALL {
+            kind_of_call(self.call)
+        } else {
+            self.kind
+        }
     }
-    has_value(k) || v == 0
-}
 
-// ---- the action
-
-fn action_of(k: u8, a: u8, b: u8, c: u8, v: u32) -> Action
-    ensures { result ≡ action_to (action_of (fields k a b c v)) }
-{
-    match k {
-        1 => Action::Read(Va(a)),
-        2 => Action::ReadHyper(Va(a)),
-        3 => Action::Write(Va(a), v),
-        4 => Action::WriteHyper(Va(a), v),
-        5 => Action::New(Va(a), Pa(b)),
-        6 => Action::NewSm(Pa(b)),
-        7 => Action::Del(Va(a)),
-        8 => Action::Switch(Guest(a)),
-        9 => Action::Lswitch(Pa(a)),
-        10 => Action::Hcall(host::call_of(CallBytes {
-            number: c,
-            a: a,
-            b: b,
-        })),
-        11 => Action::RetCtrl,
-        12 => Action::Chmod,
-        13 => Action::Pin(Pa(a), host::pin_kind_of(b)),
-        14 => Action::Unpin(Pa(a)),
-        15 => Action::Drop(Guest(a)),
-        _ => Action::Silent,
+    // Only the two writes have a value.
+    fn has_value(self) -> bool
+        ensures { result ≡ has_value self.kind }
+    {
+        self.kind == WRITE || self.kind == WRITE_HYPER
     }
-}
 
-// ---- bytes
+    // Known kind and call, arguments in range, unused fields zero.
+    fn well_formed(self) -> bool
+        ensures { result ≡ well_formed (fields_from self) }
+    {
+        usize::from(self.kind) < KINDS
+            && self.call_known()
+            && within_of(self.limit_kind(), self.a, self.b)
+            && (self.has_value() || self.value == 0)
+    }
 
-fn wide(x: u8) -> u32
-    ensures { (result ≡ x) × (result < byte_bound) }
-{
-    x as u32
-}
-
-// Four bytes as a number, low byte first.
-fn word(a: u8, b: u8, c: u8, d: u8) -> u32
-    ensures { result ≡ a + byte_bound * b + byte_bound ^ 2 * c + byte_bound ^ 3 * d }
-{
-    wide(a) + 256 * wide(b) + 65536 * wide(c) + 16777216 * wide(d)
+    fn action(self) -> Action
+        ensures { result ≡ action_to (action_of (fields_from self)) }
+    {
+        let Fields {
+            kind,
+            a,
+            b,
+            call,
+            value,
+        } = self;
+        match kind {
+            1 => Action::Read(Va(a)),
+            2 => Action::ReadHyper(Va(a)),
+            3 => Action::Write(Va(a), value),
+            4 => Action::WriteHyper(Va(a), value),
+            5 => Action::New(Va(a), Pa(b)),
+            6 => Action::NewSm(Pa(b)),
+            7 => Action::Del(Va(a)),
+            8 => Action::Switch(Guest(a)),
+            9 => Action::Lswitch(Pa(a)),
+            10 => Action::Hcall(Call::from(CallBytes { number: call, a, b })),
+            11 => Action::RetCtrl,
+            12 => Action::Chmod,
+            13 => Action::Pin(Pa(a), PinKind::from(b)),
+            14 => Action::Unpin(Pa(a)),
+            15 => Action::Drop(Guest(a)),
+            _ => Action::Silent,
+        }
+    }
 }
 
 // The action whose record these bytes are.
-pub fn decode(r: &[u8]) -> Decoded
+pub fn decode(r: &[u8]) -> Option<Action>
     ensures { result ≡ decoded_of (decode r.now) }
 {
-    if r.len() != RECORD {
-        return Decoded::Bad;
-    }
-    let k = r[0];
-    let a = r[1];
-    let b = r[2];
-    let c = r[3];
-    let v = word(r[4], r[5], r[6], r[7]);
-    if well_formed(k, a, b, c, v) {
-        Decoded::Is(action_of(k, a, b, c, v))
-    } else {
-        Decoded::Bad
-    }
+    let fields = Fields::of(r.as_array()?);
+    fields.well_formed().then(|| fields.action())
 }

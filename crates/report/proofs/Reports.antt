@@ -4,68 +4,55 @@ use mathlib.Core.Path.{◌≡◌, refl, sym, ap, ◌∙◌}
 use mathlib.Core.Bool.{Bool, true, false, ◌&&◌}
 use mathlib.Core.Logic.{◌≢◌}
 use mathlib.Core.List.{List}
-use Prim.Native.Nat.{ℕ, suc, ◌+◌}
-use native.Mathlib.Numerals.{add-one}
+use Prim.Native.Nat.{ℕ, zero, suc, ◌+◌, ◌-◌, ◌<◌}
 use native.Mathlib.Omega.{arith}
 use Rattle.laws.specs.Choice.{pick}
 use Rattle.laws.proofs.Cases.{split}
 use Rattle.model.specs.State.{State}
 use Rattle.model.specs.Image.{is_image, held, image_number, opened}
-use Rattle.model.specs.Broken.{last_rule, Finding, first_broken, is_holds}
-use Rattle.image.specs.declared.Answer.{Answer}
-use Rattle.image.specs.Promises.{answer_to, answer_from}
+use Rattle.model.specs.Broken.{Finding, first_broken, is_holds}
+use Rattle.numbers.specs.Refusals.{code_of}
+use Rattle.image.specs.Promises.{Answer, answer_to}
 use Rattle.image.proofs.Promised.{number_is}
-use Rattle.print.specs.Text.{Page, page, typed_all}
-use Rattle.print.proofs.Typing.{typed_then, typed_none}
-use Rattle.report.specs.Report.{finding_line, rule_lines, all_hold, hold_status, broken_status, state_lines, state_status, no_image_line, image_lines, image_status}
-use Rattle.report.specs.declared.Printed.{Printed}
+use Rattle.print.specs.Text.{page, typed_all}
+use Rattle.print.specs.declared.Page.{Page}
+use Rattle.print.specs.declared.status.Printed.{Printed}
+use Rattle.print.specs.Status.{digit_of}
+use Rattle.print.specs.Pages.{typed_all_on}
+use Rattle.print.proofs.Pages.{none_on, more_on}
+use Rattle.report.specs.Report.{finding_line, rule_lines, all_hold, broken_status, state_lines, state_status, no_image_line, image_lines, image_status}
 use Rattle.report.specs.Promises.{ReportsHost, ReportsImage}
 
 -- ---- rule by rule
 
--- the line of what was found of a rule
-pub of_finding : (p : Page) (rule : ℕ) {f g : Finding} → f ≡ g → typed_all p (finding_line rule f) ≡ typed_all p (finding_line rule g)
-of_finding p rule e = ap (λ (x : Finding). typed_all p (finding_line rule x)) e
-
--- the first n rules of s are gone through: their lines are typed behind p, and a says whether they all hold
+-- the rules of s below n are gone through: their lines are typed behind p, and a says whether they all hold
 pub record Through (p : Page) (s : State) (n : ℕ) (q : Page) (a : Bool) : Type 0 where
-  pub lines : q ≡ typed_all p (rule_lines n s)
-  pub all : a ≡ all_hold n s
+  pub some : 0 < n
+  pub lines : q ≡ typed_all_on p (rule_lines (n - 1) s)
+  pub all : a ≡ all_hold (n - 1) s
 
-pub no_rules : (p : Page) (s : State) → Through p s 0 p true
+pub no_rules : (p : Page) (s : State) → Through p s 1 p true
 unfolding rule_lines all_hold
-no_rules p s = record { lines = typed_none p; all = refl }
+no_rules p s = record { some = omega arith; lines = sym (none_on p); all = refl }
 
 -- the next rule
-pub one_more : (p : Page) (s : State) (n : ℕ) {q r : Page} {a b : Bool} {f : Finding} → Through p s n q a → f ≡ first_broken (n + 1) s
-    → b ≡ is_holds f → r ≡ typed_all q (finding_line (n + 1) f) → Through p s (n + 1) r (a && b)
+pub one_more : (p : Page) (s : State) (n : ℕ) {q r : Page} {a b : Bool} {f : Finding} → Through p s n q a → f ≡ first_broken n s → b ≡ is_holds f
+    → r ≡ typed_all_on q (finding_line n f)
+    → Through p s (n + 1) r (a && b)
 unfolding rule_lines all_hold
-one_more p s n {q} {f = f} h e g t =
-    let m = add-one n in
+one_more p s zero h e g t = absurd (omega (arith, h.some))
+one_more p s (suc n) {q} {a = a} {f = f} h e g t =
+    let m : suc n - 1 ≡ n = omega arith in
+    let w : suc n + 1 - 1 ≡ suc n = omega arith in
     record {
+      some = omega arith;
       lines =
-          typed_then p (rule_lines n s) (finding_line (suc n) (first_broken (suc n) s)) h.lines
-          (t ∙ of_finding q (n + 1) e ∙ ap (λ (k : ℕ). typed_all q (finding_line k (first_broken k s))) m)
-          ∙ ap (λ (k : ℕ). typed_all p (rule_lines k s)) (sym m);
-      all =
-          (λ i. h.all i && (g ∙ ap is_holds e ∙ ap (λ (k : ℕ). is_holds (first_broken k s)) m) i)
-          ∙ ap (λ (k : ℕ). all_hold k s) (sym m);
+          t
+          ∙ (λ i. typed_all_on ((h.lines ∙ ap (λ (k : ℕ). typed_all_on p (rule_lines k s)) m) i) (finding_line (suc n) (e i)))
+          ∙ more_on p (rule_lines n s) (finding_line (suc n) (first_broken (suc n) s))
+          ∙ sym (ap (λ (k : ℕ). typed_all_on p (rule_lines k s)) w);
+      all = (λ i. (h.all ∙ ap (λ (k : ℕ). all_hold k s) m) i && (g ∙ ap is_holds e) i) ∙ sym (ap (λ (k : ℕ). all_hold k s) w);
     }
-
--- all rules
-module _ (s : State) (d e : List ℕ) (k n : ℕ) (a : Bool) (h : Through (page d 0) s n (page e k) a) (m : n ≡ last_rule) where
-  told : (x : ℕ) → x ≡ pick a hold_status broken_status → ReportsHost s d (record { bytes = k; status = x }) e
-  told x f =
-      record {
-        output = h.lines ∙ ap (λ (j : ℕ). typed_all (page d 0) (rule_lines j s)) m;
-        status = f ∙ ap (λ (b : Bool). pick b hold_status broken_status) (h.all ∙ ap (λ (j : ℕ). all_hold j s) m);
-      }
-
-  pub reports_whole : a ≡ true → ReportsHost s d (record { bytes = k; status = hold_status }) e
-  reports_whole f = told hold_status (ap (λ (b : Bool). pick b hold_status broken_status) (sym f))
-
-  pub reports_broken : a ≡ false → ReportsHost s d (record { bytes = k; status = broken_status }) e
-  reports_broken f = told broken_status (ap (λ (b : Bool). pick b hold_status broken_status) (sym f))
 
 -- ---- images
 
@@ -85,12 +72,12 @@ module _ (i d : List ℕ) {b : Bool} (o : is_image i ≡ b) where
   same_status : pick b (state_status (held i)) broken_status ≡ image_status i
   same_status = ap (λ (x : Bool). pick x (state_status (held i)) broken_status) (sym o)
 
--- by the number of the answer a
-module _ (s : State) (i d : List ℕ) {a : Answer} (w : a ≡ answer_to (opened s i).answer) (n : ℕ) (e : n ≡ image_number (answer_from a)) where
-  number_opened : n ≡ image_number (opened s i).answer
-  number_opened = number_is (opened s i).answer w e
+-- by the answer a
+module _ (s : State) (i d : List ℕ) {a : Answer} (w : a ≡ answer_to (opened s i).answer) where
+  number_opened : code_of a ≡ image_number (opened s i).answer
+  number_opened = number_is (opened s i).answer w refl
 
-  pub opened_reports : n ≡ 0 → {t : State} → t ≡ (opened s i).state → {p : Printed} {c : List ℕ} → ReportsHost t d p c → ReportsImage i d p c
+  pub opened_reports : code_of a ≡ 0 → {t : State} → t ≡ (opened s i).state → {p : Printed} {c : List ℕ} → ReportsHost t d p c → ReportsImage i d p c
   opened_reports z v r =
       let o = opened_is s i (sym number_opened ∙ z) in
       let q = v ∙ o.1 in
@@ -99,7 +86,8 @@ module _ (s : State) (i d : List ℕ) {a : Answer} (w : a ≡ answer_to (opened 
         status = r.status ∙ ap state_status q ∙ same_status i d o.0;
       }
 
-  pub other_reports : n ≢ 0 → (k : ℕ) (c : List ℕ) → page c k ≡ typed_all (page d 0) no_image_line → ReportsImage i d (record { bytes = k; status = broken_status }) c
-  other_reports z k c r =
+  pub other_reports : code_of a ≢ 0 → {p : Printed} {c : List ℕ} → (page c p.bytes ≡ typed_all (page d 0) no_image_line) × (digit_of p.status ≡ broken_status)
+      → ReportsImage i d p c
+  other_reports z r =
       let o = opened_not s i (λ q. z (number_opened ∙ q)) in
-      record { output = r ∙ same_lines_law i d o; status = same_status i d o }
+      record { output = r.0 ∙ same_lines_law i d o; status = r.1 ∙ same_status i d o }

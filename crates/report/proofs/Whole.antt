@@ -24,7 +24,7 @@ use Rattle.print.proofs.Decimal.{length_decimal}
 use Rattle.words.specs.Words.{line_end, longest_line}
 use Rattle.words.proofs.Room.{holds_room, broken_room}
 use Rattle.report.specs.Report.{finding_line, rule_lines, state_lines, refused_word, no_image_line, image_lines, report_bytes}
-use Rattle.report.specs.declared.Printed.{Printed}
+use Rattle.print.specs.declared.status.Printed.{Printed}
 use Rattle.report.specs.Promises.{ReportsHost, ReportsImage}
 use Rattle.report.proofs.Held.{held_sized}
 

@@ -3,24 +3,17 @@
 
 ghost use Rattle.std.specs.Prelude.{◌≡◌};
 ghost use Rattle.print.specs.Text.{page, typed_all};
+ghost use Rattle.print.specs.Pages.{typed_all_on};
 ghost use Rattle.host.specs.View.{view};
 ghost use Rattle.broken.specs.Findings.{finding_from};
-ghost use Rattle.report.specs.Report.{finding_line, no_image_line};
+ghost use Rattle.print.specs.Status.{digit_of};
+ghost use Rattle.report.specs.Report.{finding_line, no_image_line, state_lines, state_status, broken_status};
 ghost use Rattle.report.specs.Promises.{ReportsHost, ReportsImage};
 
 use broken::Finding;
 use host::Host;
-
-// How many bytes were typed, and the status with which a program that prints them ends, as a digit.
-#[derive(Clone, Copy)]
-pub struct Printed {
-    pub bytes: usize,
-    pub status: u8,
-}
-
-const ALL_HOLD: u8 = b'0';
-
-const NOT_ALL: u8 = b'1';
+use numbers::Refusal;
+use print::{Page, Printed, Status};
 
 const RULES: u8 = 11;
 
@@ -31,44 +24,68 @@ const LINE_END: u8 = b'\n';
 
 // ---- lines
 
-fn finding_line(out: &mut [u8], at: usize, rule: u8, f: Finding) -> usize
-    ensures { page out.new result ≡ typed_all (page out.old at) (finding_line rule (finding_from f)) }
+#[tactic(auto, using(print::proofs::Pages::typing))]
+fn finding_line(page: &mut Page, rule: u8, f: Finding)
+    ensures { page.new ≡ typed_all_on page.old (finding_line rule (finding_from f)) }
 {
     match f {
-        Finding::Holds => words::holds_line(out, at, rule),
-        Finding::Broken(part, place) => words::broken_line(out, at, rule, part, place),
-        Finding::NoRule => at,
+        Finding::Holds => words::holds_line(page, rule),
+        Finding::Broken(part, place) => words::broken_line(page, rule, part, place),
+        Finding::NoRule => {}
+    }
+}
+
+// Every rule is gone through, whatever the others say.
+fn state_lines(page: &mut Page, h: &Host) -> Status
+    ensures { (page.new ≡ typed_all_on page.old (state_lines (view h.now))) × (digit_of result ≡ state_status (view h.now)) }
+{
+    let mut all = true;
+    for rule in 1..=RULES {
+        let f = broken::first_broken(h, rule);
+        all &= broken::is_holds(f);
+        finding_line(page, rule, f);
+    }
+    if all {
+        Status::Passed
+    } else {
+        Status::TurnedAway
     }
 }
 
 // The number of what is no image, behind its word.
-fn no_image_line(out: &mut [u8]) -> usize
-    ensures { page out.new result ≡ typed_all (page out.old 0) no_image_line }
+#[tactic(auto, using(print::proofs::Pages::typing))]
+fn no_image_line(page: &mut Page)
+    ensures { page.new ≡ typed_all_on page.old no_image_line }
 {
-    let word = b"refused ";
-    let a = print::text(out, 0, word);
-    let number = image::number(image::Answer::NotImage);
-    let b = print::number(out, a, number as u64);
-    print::byte(out, b, LINE_END)
+    page.text("refused ");
+    page.number(u8::from(Refusal::NotImage) as u64);
+    page.byte(LINE_END);
 }
 
 // ---- reports
 
-// Every rule is gone through, whatever the others say.
+#[tactic(auto, unfolding(print::specs::Pages::typed_all_on))]
 pub fn of_host(h: &Host, out: &mut [u8]) -> Printed
     ensures { ReportsHost (view h.now) out.old result out.new }
 {
-    let mut bytes: usize = 0;
-    let mut all = true;
-    let mut rule: u8 = 0;
-    while rule < RULES {
-        rule += 1;
-        let f = broken::first_broken(h, rule);
-        all = all & broken::is_holds(f);
-        bytes = finding_line(out, bytes, rule, f);
+    let mut page = Page::new(out);
+    let status = state_lines(&mut page, h);
+    Printed {
+        bytes: page.place(),
+        status,
     }
-    let status = if all { ALL_HOLD } else { NOT_ALL };
-    Printed { bytes, status }
+}
+
+#[tactic(auto, unfolding(print::specs::Pages::typed_all_on))]
+fn of_no_image(out: &mut [u8]) -> Printed
+    ensures { (page out.new result.bytes ≡ typed_all (page out.old 0) no_image_line) × (digit_of result.status ≡ broken_status) }
+{
+    let mut page = Page::new(out);
+    no_image_line(&mut page);
+    Printed {
+        bytes: page.place(),
+        status: Status::TurnedAway,
+    }
 }
 
 // The image is opened, not loaded: its host may be anything.
@@ -76,13 +93,8 @@ pub fn of_image(image: &[u8], out: &mut [u8]) -> Printed
     ensures { ReportsImage image.now out.old result out.new }
 {
     let mut h: Host = [0; host::SIZE];
-    let a = image::open(&mut h, image);
-    if image::number(a) == 0 {
-        return of_host(&h, out);
-    }
-    let bytes = no_image_line(out);
-    Printed {
-        bytes,
-        status: NOT_ALL,
+    match image::open(&mut h, image) {
+        Ok(()) => of_host(&h, out),
+        Err(_) => of_no_image(out),
     }
 }

@@ -8,14 +8,12 @@
 mod files; // files.rt: the words of ./rpj, the images that it names, and reading
 mod stream; // stream.rt: a journal that is run as it arrives
 
-ghost use Rattle.std.specs.Prelude.{◌≡◌};
-ghost use Rattle.output.specs.Output.{ran_status};
+ghost use Rattle.std.specs.Prelude.{◌≡◌, OnOk};
+ghost use Rattle.print.specs.declared.status.Status.TheVariants.{Passed};
 
-use files::{
-    ABSENT, FAILED, IMAGE, at_most, is_checked, is_streamed, is_through, read_all, read_image,
-    save_image,
-};
+use files::{IMAGE, Word, is_said, read_all, read_image, save_image};
 use host::{Host, WritePolicy};
+use print::Status;
 use std::env::Env;
 use std::io::Input;
 use std::rt::Files;
@@ -37,52 +35,74 @@ const OUTPUT: usize = 20 * journal::LIMIT + 64;
 // The longest line of an image that is refused, `refused 16` and its end.
 const REFUSAL: usize = 11;
 
-const RAN: u8 = output::RAN;
-
-fn fail(why: &[u8]) -> u8
-    ensures { result ≡ ran_status → ⊥ }
-{
-    io::write_all(STDERR_FILENO, why);
-    b'2'
+// Why no more is done.
+#[derive(Clone, Copy)]
+enum Stop {
+    // what was printed says it
+    Printed(Status),
+    NoImage,
+    OtherPolicy,
+    UnreadImage,
+    UnreadInput,
+    UnwrittenOutput,
+    UnwrittenImage,
 }
 
-// The text, and the status that goes with it.
-fn put(text: &[u8], status: u8) -> u8
-    ensures { result ≡ ran_status → status ≡ ran_status }
+impl Stop {
+    fn status(self) -> Status {
+        match self {
+            Stop::Printed(status) => status,
+            _ => Status::Failed,
+        }
+    }
+
+    fn words(self) -> &'static str {
+        match self {
+            Stop::Printed(_) => "",
+            Stop::NoImage => "rpj: wrong use: no image to check\n",
+            Stop::OtherPolicy => "rpj: wrong use: --write-through, and the image is write-back\n",
+            Stop::UnreadImage => "rpj: the image cannot be read\n",
+            Stop::UnreadInput => "rpj: the input cannot be read\n",
+            Stop::UnwrittenOutput => "rpj: the output cannot be written\n",
+            Stop::UnwrittenImage => "rpj: the image cannot be written\n",
+        }
+    }
+}
+
+// The text; what its status turns away ends the program.
+fn put(text: &[u8], status: Status) -> Result<(), Stop>
+    ensures { OnOk result (status ≡ Passed) }
 {
     if !io::write_all(STDOUT_FILENO, text) {
-        return fail(b"rpj: the output cannot be written\n");
+        return Err(Stop::UnwrittenOutput);
     }
-    status
+    match status {
+        Status::Passed => Ok(()),
+        _ => Err(Stop::Printed(status)),
+    }
 }
 
-fn load(h: &mut Host, image: &[u8], got: usize) -> u8 {
-    let n = at_most(got, image);
+fn load(h: &mut Host, image: &[u8]) -> Result<(), Stop> {
     let mut out = [0u8; REFUSAL];
-    let p = output::load(h, &image[..n], &mut out);
+    let p = output::load(h, image, &mut out);
     put(&out[..p.bytes], p.status)
 }
 
-fn check(image: &[u8], got: usize) -> u8 {
-    if got == ABSENT {
-        return fail(b"rpj: wrong use: no image to check\n");
-    }
-    let n = at_most(got, image);
+fn check(image: &[u8]) -> Result<(), Stop> {
     let mut out = [0u8; report::SIZE];
-    let p = report::of_image(&image[..n], &mut out);
+    let p = report::of_image(image, &mut out);
     put(&out[..p.bytes], p.status)
 }
 
-fn run(h: &mut Host, input: &[u8], got: usize) -> u8 {
-    let n = at_most(got, input);
+fn run(h: &mut Host, input: &[u8]) -> Result<(), Stop> {
     let mut answers = [0u8; ANSWERS];
     let mut out = [0u8; OUTPUT];
-    let p = output::run(h, &input[..n], &mut answers, &mut out);
+    let p = output::run(h, input, &mut answers, &mut out);
     put(&out[..p.bytes], p.status)
 }
 
 fn policy_asked(rt: &impl Env) -> WritePolicy {
-    if is_through(rt) {
+    if is_said(rt, Word::Through) {
         WritePolicy::Through
     } else {
         WritePolicy::Back
@@ -90,80 +110,65 @@ fn policy_asked(rt: &impl Env) -> WritePolicy {
 }
 
 // The image has its own policy, and is judged before that.
-fn load_as_asked(rt: &impl Env, h: &mut Host, image: &[u8], from: usize) -> u8 {
-    let loaded = load(h, image, from);
-    if loaded != RAN {
-        return loaded;
+fn load_as_asked(rt: &impl Env, h: &mut Host, image: &[u8]) -> Result<(), Stop> {
+    load(h, image)?;
+    if is_said(rt, Word::Through) && host::policy(h) != host::WRITE_THROUGH {
+        return Err(Stop::OtherPolicy);
     }
-    if is_through(rt) && host::policy(h) != host::WRITE_THROUGH {
-        return fail(b"rpj: wrong use: --write-through, and the image is write-back\n");
-    }
-    RAN
+    Ok(())
 }
 
-fn start(rt: &impl Env, h: &mut Host, image: &[u8], from: usize) -> u8 {
-    if from == ABSENT {
-        host::fresh_with(h, policy_asked(rt));
-        return RAN;
+fn start(rt: &impl Env, h: &mut Host, image: Option<&[u8]>) -> Result<(), Stop> {
+    match image {
+        Some(image) => load_as_asked(rt, h, image),
+        None => {
+            host::fresh_with(h, policy_asked(rt));
+            Ok(())
+        }
     }
-    load_as_asked(rt, h, image, from)
-}
-
-fn save(rt: &(impl Env + Files), h: &Host) -> u8 {
-    if !save_image(rt, h) {
-        return fail(b"rpj: the image cannot be written\n");
-    }
-    RAN
 }
 
 // All is read before anything is printed.
-fn run_whole(rt: &(impl Env + Input), h: &mut Host, image: &[u8], from: usize) -> u8 {
+fn run_whole(rt: &(impl Env + Input), h: &mut Host, image: Option<&[u8]>) -> Result<(), Stop> {
     let mut input = [0u8; INPUT];
-    let got = read_all(&mut rt.reader(), &mut input);
-    if got == FAILED {
-        return fail(b"rpj: the input cannot be read\n");
-    }
-    let started = start(rt, h, image, from);
-    if started != RAN {
-        return started;
-    }
-    run(h, &input, got)
+    let input = read_all(&mut rt.reader(), &mut input).map_err(|_| Stop::UnreadInput)?;
+    start(rt, h, image)?;
+    run(h, input)
 }
 
 // The image is judged before anything is read.
-fn run_streamed(rt: &(impl Env + Input), h: &mut Host, image: &[u8], from: usize) -> u8 {
-    let started = start(rt, h, image, from);
-    if started != RAN {
-        return started;
-    }
+fn run_streamed(rt: &(impl Env + Input), h: &mut Host, image: Option<&[u8]>) -> Result<(), Stop> {
+    start(rt, h, image)?;
     stream::run(&mut rt.reader(), h)
 }
 
-fn run_either(rt: &(impl Env + Input), h: &mut Host, image: &[u8], from: usize) -> u8 {
-    if is_streamed(rt) {
-        return run_streamed(rt, h, image, from);
+// An image is saved once all is printed.
+fn run_from(rt: &(impl Env + Files + Input), image: Option<&[u8]>) -> Result<(), Stop> {
+    let mut h: Host = [0; host::SIZE];
+    if is_said(rt, Word::Stream) {
+        run_streamed(rt, &mut h, image)?;
+    } else {
+        run_whole(rt, &mut h, image)?;
     }
-    run_whole(rt, h, image, from)
+    save_image(rt, &h).map_err(|_| Stop::UnwrittenImage)
 }
 
-// An image is saved once all is printed.
-fn whole(rt: &(impl Env + Files + Input)) -> u8 {
+fn whole(rt: &(impl Env + Files + Input)) -> Result<(), Stop> {
     let mut image = [0u8; IMAGE];
-    let from = read_image(rt, &mut image);
-    if from == FAILED {
-        return fail(b"rpj: the image cannot be read\n");
+    let image = read_image(rt, &mut image).map_err(|_| Stop::UnreadImage)?;
+    if is_said(rt, Word::Check) {
+        return check(image.ok_or(Stop::NoImage)?);
     }
-    if is_checked(rt) {
-        return check(&image, from);
-    }
-    let mut h: Host = [0; host::SIZE];
-    let ran = run_either(rt, &mut h, &image, from);
-    if ran != RAN {
-        return ran;
-    }
-    save(rt, &h)
+    run_from(rt, image)
 }
 
 fn main(rt: HostRuntime) {
-    io::write_all(STATUS_FILENO, &[whole(&rt)]);
+    let status = match whole(&rt) {
+        Ok(()) => Status::Passed,
+        Err(stop) => {
+            io::write_all(STDERR_FILENO, stop.words().as_bytes());
+            stop.status()
+        }
+    };
+    io::write_all(STATUS_FILENO, &[u8::from(status)]);
 }

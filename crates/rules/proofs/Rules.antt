@@ -22,7 +22,7 @@ use Rattle.lines.specs.Lines.{lined_by, lined, slot_by, slotted, through}
 use Rattle.entries.specs.Entries.{own_by, own_at}
 use Rattle.seek.proofs.Leading.{leads_same}
 
-module _ (s : State) (size : Sized s) where
+module _ (s : State) where
   -- ---- 3
 
   abbrev holds : ℕ → ℕ → ℕ → Bool
@@ -46,9 +46,9 @@ module _ (s : State) (size : Sized s) where
       all_same guests (λ g l. ap (λ (b : Bool). eqb (at s.shape.pages.owner p) (owner_guest g) ⇒ b)
       (some_same physicals (λ pa k. leads_at_law (at s.shape.pages.physical (physicals * g + pa)) p h)))
 
-  pub rule3_is : (all_below (guests * physicals) (held_once s) && all_below pages (registered_at s)) ≡ rule3? s.shape.pages.owner s.shape.pages.physical
+  pub rule3_is : Sized s → (all_below (guests * physicals) (held_once s) && all_below pages (registered_at s)) ≡ rule3? s.shape.pages.owner s.shape.pages.physical
   unfolding rule3?
-  rule3_is =
+  rule3_is size =
       let o = s.shape.pages.owner in
       let l = s.shape.pages.physical in
       ap (λ (b : Bool). all_below (guests * physicals) (held_once s) && b) (all_same pages registered_is)
@@ -61,9 +61,9 @@ module _ (s : State) (size : Sized s) where
   unfolding own_at own_by
   entry_is_law i = ap (λ (k : ℕ). leads_to (at s.shape.pages.entry k) (own_by s (i / addresses) (i % addresses))) (place_of addresses (omega arith) i)
 
-  pub rule4_is : all_below (pages * addresses) (λ i. own_at s (i / addresses) (i % addresses)) ≡ rule4? s.shape.pages.owner s.shape.pages.kind s.shape.pages.entry
+  pub rule4_is : Sized s → all_below (pages * addresses) (λ i. own_at s (i / addresses) (i % addresses)) ≡ rule4? s.shape.pages.owner s.shape.pages.kind s.shape.pages.entry
   unfolding rule4?
-  rule4_is =
+  rule4_is size =
       all_same (pages * addresses) (λ i h. entry_is_law i)
       ∙ sym (all_places (rule4_at s.shape.pages.owner s.shape.pages.kind) s.shape.pages.entry (pages * addresses) size.entry)
 

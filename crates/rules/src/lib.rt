@@ -1,14 +1,15 @@
 // The test of validity: a function for each rule of docs/RULES.md.
 #![tactic(auto)]
 
-ghost use Rattle.std.specs.Prelude.{◌≡◌, ◌+◌, ◌*◌, ◌/◌, ◌%◌, ◌<◌};
+ghost use Rattle.std.specs.Prelude.{◌≡◌};
 ghost use Rattle.laws.specs.Search.{all_below};
-ghost use Rattle.model.specs.Sizes.{pages, addresses};
+ghost use Rattle.model.specs.Sizes.{addresses};
 ghost use Rattle.model.specs.State.{table};
 ghost use Rattle.model.specs.RuleTests.{rule1?, rule2?, rule8?, rule9?, rule10?, rule11?, rule3?, rule4?, rule5?, rule6?, rule7?};
 ghost use Rattle.model.specs.Valid.{valid?};
 ghost use Rattle.host.specs.View.{view};
-ghost use Rattle.rules.specs.Tests.{test, entry_test};
+ghost use Rattle.ranges.specs.Ranges.{entry_in_range};
+ghost use Rattle.entries.specs.Entries.{own_at};
 
 use entries::{no_page_shared, own};
 use host::{Guest, Host, Ma, Va};
@@ -18,6 +19,10 @@ use ranges::{
     entry_in_range, guest_in_range, line_in_range, page_in_range, place_in_range, set_in_range,
     slot_in_range,
 };
+
+// Guests, pages, addresses, lines and slots are numbered by bytes; host's sizes index buffers, and with them each test below would cast.
+
+const ADDRESSES: u8 = host::ADDRESSES as u8;
 
 const GUESTS: u8 = host::GUESTS as u8;
 
@@ -31,140 +36,71 @@ const SETS: u8 = host::SETS as u8;
 
 const SLOTS: u8 = host::SLOTS as u8;
 
-#[derive(Clone, Copy)]
-enum Test {
-    Held,
-    Registered,
-    CurrentTable,
-    StealthCacheable,
-    Line,
-    Call,
-    Page,
-    Slot,
-    PageRange,
-    PlaceRange,
-    GuestRange,
-    LineRange,
-    SetRange,
-    SlotRange,
-    Through,
-}
+// ---- each entry of page m, read as a table
 
-#[derive(Clone, Copy)]
-enum EntryTest {
-    Own,
-    Range,
-}
-
-fn passes(h: &Host, t: Test, i: u8) -> bool
-    ensures { result ≡ test t (view h.now) i }
+fn table_own(h: &Host, m: Ma) -> bool
+    ensures { result ≡ all_below addresses (own_at (view h.now) m.0) }
 {
-    match t {
-        Test::Held => held(h, i),
-        Test::Registered => registered(h, Ma(i)),
-        Test::CurrentTable => current_table(h, Guest(i)),
-        Test::StealthCacheable => stealth_cacheable(h, Ma(i)),
-        Test::Line => line(h, i),
-        Test::Call => call_kept(h, Guest(i)),
-        Test::Page => page_kept(h, Ma(i)),
-        Test::Slot => slot(h, i),
-        Test::PageRange => page_in_range(h, Ma(i)),
-        Test::PlaceRange => place_in_range(h, i),
-        Test::GuestRange => guest_in_range(h, Guest(i)),
-        Test::LineRange => line_in_range(h, i),
-        Test::SetRange => set_in_range(h, i),
-        Test::SlotRange => slot_in_range(h, i),
-        Test::Through => through(h, i),
-    }
+    (0..ADDRESSES).all(|a| own(h, m, Va(a)))
 }
 
-fn all(h: &Host, t: Test, n: u8) -> bool
-    ensures { result ≡ all_below n (test t (view h.now)) }
+fn table_in_range(h: &Host, m: Ma) -> bool
+    ensures { result ≡ all_below addresses (entry_in_range (view h.now) m.0) }
 {
-    let mut i: u8 = 0;
-    while i < n {
-        if !passes(h, t, i) {
-            return false;
-        }
-        i += 1;
-    }
-    true
+    (0..ADDRESSES).all(|a| entry_in_range(h, m, Va(a)))
 }
 
-fn entry_passes(h: &Host, t: EntryTest, m: Ma, a: Va) -> bool
-    ensures { result ≡ entry_test t (view h.now) m.0 a.0 }
-{
-    match t {
-        EntryTest::Own => own(h, m, a),
-        EntryTest::Range => entry_in_range(h, m, a),
-    }
-}
-
-fn all_entries(h: &Host, t: EntryTest) -> bool
-    ensures { result ≡ all_below (pages * addresses) (λ i. entry_test t (view h.now) (i / addresses) (i % addresses)) }
-{
-    let mut i: usize = 0;
-    while i < host::PAGES * host::ADDRESSES {
-        let m = Ma((i / host::ADDRESSES) as u8);
-        let a = Va((i % host::ADDRESSES) as u8);
-        if !entry_passes(h, t, m, a) {
-            return false;
-        }
-        i += 1;
-    }
-    true
-}
+// ---- the rules
 
 pub fn rule1(h: &Host) -> bool
     ensures { result ≡ rule1? (view h.now).shape.guests.call (view h.now).shape.guests.call_a (view h.now).shape.guests.call_b (view h.now).shape.guests.active (view h.now).shape.guests.mode }
 {
-    all(h, Test::Call, GUESTS)
+    (0..GUESTS).all(|g| call_kept(h, Guest(g)))
 }
 
 pub fn rule2(h: &Host) -> bool
     ensures { result ≡ rule2? (view h.now).shape.pages.owner (view h.now).shape.pages.kind (view h.now).shape.pages.cacheable (view h.now).values.memory (view h.now).shape.pages.free }
 {
-    all(h, Test::Page, PAGES)
+    (0..PAGES).all(|p| page_kept(h, Ma(p)))
 }
 
 pub fn rule3(h: &Host) -> bool
     ensures { result ≡ rule3? (view h.now).shape.pages.owner (view h.now).shape.pages.physical }
 {
     host::whole(h);
-    all(h, Test::Held, GUESTS * PHYSICALS) & all(h, Test::Registered, PAGES)
+    (0..GUESTS * PHYSICALS).all(|i| held(h, i)) & (0..PAGES).all(|p| registered(h, Ma(p)))
 }
 
 pub fn rule4(h: &Host) -> bool
     ensures { result ≡ rule4? (view h.now).shape.pages.owner (view h.now).shape.pages.kind (view h.now).shape.pages.entry }
 {
     host::whole(h);
-    all_entries(h, EntryTest::Own)
+    (0..PAGES).all(|m| table_own(h, Ma(m)))
 }
 
 pub fn rule5(h: &Host) -> bool
     ensures { result ≡ rule5? (view h.now).shape.pages.owner (view h.now).shape.pages.kind (view h.now).shape.pages.physical (view h.now).shape.guests.current }
 {
-    all(h, Test::CurrentTable, GUESTS)
+    (0..GUESTS).all(|g| current_table(h, Guest(g)))
 }
 
 pub fn rule6(h: &Host) -> bool
     ensures { result ≡ rule6? (view h.now).shape.pages.kind (view h.now).shape.pages.cacheable (view h.now).shape.pages.entry }
 {
     host::whole(h);
-    no_page_shared(h) & all(h, Test::StealthCacheable, PAGES)
+    no_page_shared(h) & (0..PAGES).all(|m| stealth_cacheable(h, Ma(m)))
 }
 
 pub fn rule7(h: &Host) -> bool
     ensures { result ≡ rule7? (view h.now).shape.pages.kind (view h.now).shape.pages.cacheable (view h.now).shape.pages.entry (view h.now).shape.cache.line_address (view h.now).shape.cache.line_page }
 {
-    host::whole(h);
-    all(h, Test::Line, LINES)
+    (0..LINES).all(|i| line(h, i))
 }
 
 pub fn rule8(h: &Host) -> bool
     ensures { result ≡ rule8? (view h.now).shape.pages.entry (view h.now).shape.tlb.slot_address (view h.now).shape.tlb.slot_page (table (view h.now).shape) }
 {
-    all(h, Test::Slot, SLOTS)
+    (0..SLOTS).all(|i| slot(h, i))
 }
 
 pub fn rule9(h: &Host) -> bool
@@ -181,19 +117,19 @@ pub fn rule10(h: &Host) -> bool
     let singles = (a.0 < GUESTS)
         & (host::mode(h) < host::RUNNING + 1)
         & (host::policy(h) < host::POLICIES);
-    let shapes = all(h, Test::PageRange, PAGES)
-        & all(h, Test::PlaceRange, GUESTS * PHYSICALS)
-        & all(h, Test::GuestRange, GUESTS)
-        & all(h, Test::LineRange, LINES)
-        & all(h, Test::SetRange, SETS)
-        & all(h, Test::SlotRange, SLOTS);
-    singles & shapes & all_entries(h, EntryTest::Range)
+    let shapes = (0..PAGES).all(|p| page_in_range(h, Ma(p)))
+        & (0..GUESTS * PHYSICALS).all(|i| place_in_range(h, i))
+        & (0..GUESTS).all(|g| guest_in_range(h, Guest(g)))
+        & (0..LINES).all(|i| line_in_range(h, i))
+        & (0..SETS).all(|k| set_in_range(h, k))
+        & (0..SLOTS).all(|i| slot_in_range(h, i));
+    singles & shapes & (0..PAGES).all(|m| table_in_range(h, Ma(m)))
 }
 
 pub fn rule11(h: &Host) -> bool
     ensures { result ≡ rule11? (view h.now).shape.cache.line_page (view h.now).values.memory (view h.now).values.line (view h.now).shape.policy }
 {
-    all(h, Test::Through, LINES)
+    (0..LINES).all(|i| through(h, i))
 }
 
 // Without an exit in between: a valid state, which is what is judged, passes them all.

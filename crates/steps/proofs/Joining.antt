@@ -1,17 +1,19 @@
 -- A record that was put together, and those that lie one after another, as one run.
 -- Assumes nothing.
 use mathlib.Core.Path.{◌≡◌, refl, sym, ap, subst, ◌∙◌}
-use mathlib.Core.Bool.{true, false}
+use mathlib.Core.Bool.{Bool, true, false, true≢false}
 use mathlib.Core.Logic.{◌≢◌}
 use mathlib.Core.List.{List, [], ◌∷◌, ◌++◌, append_assoc, append-nil}
-use Prim.Native.Nat.{ℕ, zero, suc, ◌+◌, ◌*◌, ◌-◌, ◌≤◌}
+use Prim.Native.Nat.{ℕ, zero, suc, ◌+◌, ◌*◌, ◌-◌, ◌/◌, ◌≤◌, ◌<◌}
 use native.Mathlib.Omega.{arith}
+use lib.Dec.{eqb}
 use lib.ListN.{length, take, drop, length-take, length-drop, drop_of_length-le}
 use lib.Seq.{sets-eq, length-sets, take_all, take_at, drop_at, drop-drop}
-use Rattle.laws.proofs.Cases.{pick_yes, pick_not}
+use Rattle.laws.proofs.Cases.{below?, pick_yes, pick_not}
+use Rattle.laws.proofs.Tests.{eq⇔, lt⇔, not_so}
 use Rattle.laws.proofs.Lists.{length_list_of}
 use Rattle.laws.proofs.Search.{Each}
-use Rattle.model.specs.Sizes.{answer_bytes}
+use Rattle.model.specs.Sizes.{record_bytes, answer_bytes}
 use Rattle.model.specs.State.{State}
 use Rattle.model.specs.Records.{Bytes}
 use Rattle.model.specs.Valid.{valid?}
@@ -20,12 +22,13 @@ use Rattle.model.specs.Run.{Ran, run_by, run}
 use Rattle.model.specs.Journal.{answer_bytes_of, written, pasted, accepted_in}
 use Rattle.model.proofs.Run.{run_length}
 use Rattle.steps.specs.Acting.{judged}
-use Rattle.steps.specs.Parts.{record_from, records_from, together_count, joined_records, most_of, took_of, RunsJoined, RunsMost}
-use Rattle.steps.specs.declared.Ran.TheVariants.{Took, Refused}
-use Rattle.steps.specs.declared.Answer as code
-use Rattle.steps.specs.Promises.{Gives}
-use Rattle.steps.specs.Turns.{answer_from, answer_at, counts, Stores, Plays, JudgesFirst, PlaysJoined}
-use Rattle.steps.proofs.Running.{from_to, records_from_bytes, run_as_judged, counts_most}
+use Rattle.steps.specs.declared.Ran as code
+use Rattle.steps.specs.Parts.{record_from, records_from, together_count, joined_records, runnable, most_of, took_of, RunsFirst, Runs, RunsJoined, RunsMost}
+use Rattle.std.specs.Prelude.{Result, Ok, Err}
+use Rattle.numbers.specs.declared.refusal.Refusal.{Refusal}
+use Rattle.numbers.specs.declared.refusal.Refusal.TheVariants.{NotValid}
+use Rattle.steps.specs.Turns.{answer_at, Plays, JudgesFirst, PlaysJoined}
+use Rattle.steps.proofs.Running.{records_from_bytes, run_as_judged, counts_most}
 
 pub none_together : (l : List ℕ) → length l ≡ 0 → together_count l ≡ 0
 none_together [] e = refl
@@ -35,13 +38,13 @@ pub one_together : (l : List ℕ) → length l ≢ 0 → together_count l ≡ 1
 one_together [] n = absurd (n refl)
 one_together (x ∷ l) n = refl
 
--- ---- judged
+-- whether there are no bytes, as code asks
+module _ (l : List ℕ) {b : Bool} (e : b ≡ eqb (length l) 0) where
+  pub is_none : b ≡ true → length l ≡ 0
+  is_none t = (eq⇔ (length l) 0).0 (sym e ∙ t)
 
-pub judged_first : (s : State) (l b : List ℕ) {a : code.Answer} {k : ℕ} {t : State} {c : List ℕ} → Gives (judged s l) a t → Stores b 0 a k c
-    → JudgesFirst s l b k t c
-judged_first s l b {a} g w =
-    let d : answer_from a ≡ (judged s l).answer = ap answer_from g.answer ∙ from_to (judged s l).answer in
-    record { counted = w.counted ∙ ap counts d; state = g.state; buffer = w.buffer ∙ ap (answer_at b 0) d }
+  pub is_one : b ≡ false → length l ≢ 0
+  is_one t n = true≢false (sym ((eq⇔ (length l) 0).1 n) ∙ sym e ∙ t)
 
 pub first_most : {s : State} {l b : List ℕ} {k : ℕ} {t : State} {c : List ℕ} → JudgesFirst s l b k t c → k ≤ 1
 first_most {s} {l} q = let e = counts_most (judged s l).answer in omega (arith, q.counted)
@@ -143,23 +146,52 @@ joined_bytes (a ∷ l) j x y start (suc n) = (x, records_from_bytes j y start n)
 
 module _ (s : State) (first j : List ℕ) (start : ℕ) (b : List ℕ) where
   pub most_played : (a n : ℕ) → n ≡ most_of a first j start b → valid? s ≡ true → Bytes first → Bytes j → {k : ℕ} {t : State} {c : List ℕ}
-      → PlaysJoined s first j start n b k t c → RunsMost a s first j start b (Took n k) t c
+      → PlaysJoined s first j start n b k t c → RunsMost a s first j start b (Ok (record { taken = n; accepted = k })) t c
   most_played a n q e x y {k} {t} {c} p =
       let rs = joined_records first j start n in
       let r : run_by judged s rs ≡ run s rs = run_as_judged s e rs (joined_bytes first j x y start n) in
-      subst (λ (m : ℕ). RunsJoined m s first j start b (Took n k) t c) q
+      subst (λ (m : ℕ). RunsJoined m s first j start b (Ok (record { taken = n; accepted = k })) t c) q
       (record {
-        result = ap (Took n) (p.counted ∙ ap (λ (z : Ran). accepted_in z.answers) r) ∙ sym (pick_yes (took_of (run s rs) n) (Refused 1) e);
+        result =
+            ap (λ (i : ℕ). Ok (record { taken = n; accepted = i })) (p.counted ∙ ap (λ (z : Ran). accepted_in z.answers) r)
+            ∙ sym (pick_yes (Ok (took_of (run s rs) n)) (Err NotValid) e);
         state = p.state ∙ ap (λ (z : Ran). z.state) r ∙ sym (pick_yes (run s rs).state s e);
         buffer = p.buffer ∙ ap (λ (z : Ran). pasted z.answers b) r ∙ sym (pick_yes (pasted (run s rs).answers b) b e);
       })
 
-  pub most_refused : (a : ℕ) → valid? s ≡ false → RunsMost a s first j start b (Refused 1) s b
+  pub most_refused : (a : ℕ) → valid? s ≡ false → RunsMost a s first j start b (Err NotValid) s b
   most_refused a e =
       let n = most_of a first j start b in
       let r = run s (joined_records first j start n) in
       record {
-        result = sym (pick_not (took_of r n) (Refused 1) e);
+        result = sym (pick_not (Ok (took_of r n)) (Err NotValid) e);
         state = sym (pick_not r.state s e);
         buffer = sym (pick_not (pasted r.answers b) b e);
       }
+
+-- ---- with no record put together, and as many allowed as there can be
+
+module _ (j : List ℕ) (start : ℕ) (b : List ℕ) where
+  abbrev room : ℕ
+  room = length b / answer_bytes
+
+  abbrev whole : ℕ
+  whole = (length j - start) / record_bytes
+
+  pub whole_runnable : whole ≤ room → whole ≡ runnable j start b
+  whole_runnable h = sym (pick_not room whole (not_so (lt⇔ room whole) (λ k. omega arith)))
+
+  room_runnable : room < whole → room ≡ runnable j start b
+  room_runnable h = sym (pick_yes room whole ((lt⇔ room whole).1 h))
+
+  runnable_most : (n : ℕ) → length j ≤ n → most_of n [] j start b ≡ runnable j start b
+  runnable_most n h =
+      below? room whole
+      (λ k. let e : most_of n [] j start b ≡ room = omega arith in e ∙ room_runnable k)
+      (λ k. let e : most_of n [] j start b ≡ whole = omega arith in e ∙ whole_runnable k)
+
+pub runs_all : (s : State) (j : List ℕ) (start : ℕ) (b : List ℕ) (n : ℕ) → length j ≤ n → {r : Result code.Ran Refusal} {t : State} {c : List ℕ}
+    → RunsMost n s [] j start b r t c → Runs s j start b r t c
+runs_all s j start b n h {r} {t} {c} p =
+    subst (λ (m : ℕ). RunsFirst m s j start b r t c) (runnable_most j start b n h)
+    (record { result = p.result; state = p.state; buffer = p.buffer })

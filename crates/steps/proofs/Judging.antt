@@ -21,7 +21,7 @@ use Rattle.model.specs.Read.{read_step}
 use Rattle.model.specs.Write.{write_step}
 use Rattle.model.specs.NewSm.{new_sm_step}
 use Rattle.model.specs.Unpin.{unpin_step}
-use Rattle.model.specs.Step.{refusal, next, value, Outcome, done, refuse, act, judge, step}
+use Rattle.model.specs.Step.{refusal, next, value, Outcome, done, refused, refuse, act, judge, step}
 use Rattle.model.proofs.Valid.{valid⇔}
 use Rattle.model.proofs.Records.{encode_decode}
 use Rattle.keeps.specs.Allowed.{Allowed, Access}
@@ -34,17 +34,19 @@ use Rattle.acts.specs.Mapped.{created}
 use Rattle.acts.proofs.Pages.{for_page}
 use Rattle.acts.proofs.Damage.{deleted_valid, created_valid}
 use Rattle.acts.proofs.Pinning.{pinned_valid}
-use Rattle.records.specs.declared.Action as code
-use Rattle.records.specs.declared.Decoded.{Decoded}
-use Rattle.records.specs.declared.Decoded.TheVariants.{Is, Bad}
+use Rattle.records.specs.declared.Action as coded
 use Rattle.records.specs.Actions.{action_to, decoded_of}
 use Rattle.records.proofs.Typed.{kind_decoded}
 use Rattle.asks.specs.Actions.{action_from}
 use Rattle.asks.proofs.Actions.{from_to}
-use Rattle.steps.specs.declared.Answer.{Answer}
-use Rattle.steps.specs.declared.Answer.TheVariants.{Done, Refused}
+use Rattle.std.specs.Prelude.{Result, Ok, Err, Some, None}
+use Rattle.std.specs.Prelude as code
+use Rattle.numbers.specs.declared.refusal.Refusal.{Refusal}
+use Rattle.numbers.specs.declared.refusal.Refusal.TheVariants.{NotValid, NoRecord}
+use Rattle.numbers.specs.Refusals.{refusal_number}
+use Rattle.steps.proofs.Refusals.{some_number}
 use Rattle.steps.specs.Acting.{performed, answered, read_at, acted, judged}
-use Rattle.steps.specs.Promises.{Gives, Performs}
+use Rattle.steps.specs.Promises.{answer_from, Gives}
 use Rattle.steps.proofs.Reading.{found_valid}
 
 -- ---- taken apart
@@ -60,35 +62,35 @@ acted? P s x f g = go (eqb (refusal s.shape x) 0) refl
     go true e = f (eqb-true (refusal s.shape x) 0 e)
     go false e = g (eqb-false (refusal s.shape x) 0 e)
 
-module _ (s : State) (x : Action) (n : ℕ) (e : n ≡ refusal s.shape x) where
-  pub acted_refused : n ≢ 0 → Gives (acted s x) (Refused n) s
-  acted_refused z =
-      acted? (λ o. Gives o (Refused n) s) s x (λ q. absurd (z (e ∙ q))) (λ q. record { answer = ap Refused e; state = refl })
+module _ (s : State) (x : Action) where
+  pub acted_refused : (r : Refusal) → refusal_number r ≡ refusal s.shape x → Gives (acted s x) (Err r) s
+  acted_refused r e =
+      acted? (λ o. Gives o (Err r) s) s x (λ q. absurd (some_number r (e ∙ q))) (λ q. record { answer = ap refused e; state = refl })
 
-  pub acted_done : (t : State) (v : ℕ) → n ≡ 0 → Performs s x v t → Gives (acted s x) (Done v) t
-  acted_done t v z p =
-      acted? (λ o. Gives o (Done v) t) s x (λ q. record { answer = ap Done p.value; state = p.state })
-      (λ q. absurd (q (sym e ∙ z)))
+  pub acted_done : 0 ≡ refusal s.shape x → (t : State) (v : ℕ) → v ≡ answered s x → t ≡ performed s x → Gives (acted s x) (Ok v) t
+  acted_done e t v p q =
+      acted? (λ o. Gives o (Ok v) t) s x (λ z. record { answer = ap done p; state = q }) (λ z. absurd (z (sym e)))
 
-module _ (s t : State) (l : List ℕ) (d : Decoded) (e : d ≡ decoded_of (decode l)) where
-  pub judged_bad : d ≡ Bad → Gives (judged s l) (Refused 2) s
+module _ (s t : State) (l : List ℕ) (d : code.Option coded.Action) (e : d ≡ decoded_of (decode l)) where
+  pub judged_bad : d ≡ None → Gives (judged s l) (Err NoRecord) s
   unfolding judged
   judged_bad f = go (decode l) refl
     where
-      go : (o : Option Action) → decode l ≡ o → Gives (elim o [ none ↦ refuse s 2 | some x ↦ acted s x ]) (Refused 2) s
+      go : (o : Option Action) → decode l ≡ o → Gives (elim o [ none ↦ refuse s 2 | some x ↦ acted s x ]) (Err NoRecord) s
       go none g = record { answer = refl; state = refl }
       go (some x) g = let z : ◌≡◌ {A = ℕ} 0 1 = cc (e, f, g) in absurd (omega arith)
 
-  pub judged_is : (x : code.Action) → d ≡ Is x → (a : Answer) → Gives (acted s (action_from x)) a t → Gives (judged s l) a t
+  pub judged_is : (x : coded.Action) → d ≡ Some x → (a : Result ℕ Refusal) → answer_from a ≡ (acted s (action_from x)).answer
+      → t ≡ (acted s (action_from x)).state → Gives (judged s l) a t
   unfolding judged
-  judged_is x f a p = go (decode l) refl
+  judged_is x f a p q = go (decode l) refl
     where
       go : (o : Option Action) → decode l ≡ o → Gives (elim o [ none ↦ refuse s 2 | some y ↦ acted s y ]) a t
       go none g = let z : ◌≡◌ {A = ℕ} 0 1 = cc (e, f, g) in absurd (omega arith)
       go (some y) g =
           let h : action_to y ≡ x = cc (e, f, g) in
           let k : action_from x ≡ y = ap action_from (sym h) ∙ from_to y (kind_decoded l y g) in
-          subst (λ (z : Action). Gives (acted s z) a t) k p
+          subst (λ (z : Action). Gives (acted s z) a t) k (record { answer = p; state = q })
 
 -- ---- on a valid state
 
@@ -164,12 +166,12 @@ module _ {s : State} (v : Valid s) where
 -- ---- any bytes on any state
 
 module _ (s t : State) (l : List ℕ) where
-  pub step_refused : valid? s ≡ false → Gives (step s l) (Refused 1) s
+  pub step_refused : valid? s ≡ false → Gives (step s l) (Err NotValid) s
   step_refused e =
-      keeps.stepped (λ o. Gives o (Refused 1) s) s l (λ n. record { answer = refl; state = refl })
+      keeps.stepped (λ o. Gives o (Err NotValid) s) s l (λ n. record { answer = refl; state = refl })
       (λ v. absurd (true≢false (sym ((valid⇔ s).1 v) ∙ e)))
 
-  pub step_judged : valid? s ≡ true → Bytes l → (a : Answer) → Gives (judged s l) a t → Gives (step s l) a t
+  pub step_judged : valid? s ≡ true → Bytes l → (a : Result ℕ Refusal) → Gives (judged s l) a t → Gives (step s l) a t
   step_judged e b a p =
       let v = (valid⇔ s).0 e in
       subst (λ (o : Outcome). Gives o a t) (judged_valid v l b ∙ sym (keeps.step_judge s l v)) p

@@ -1,5 +1,5 @@
-pub mod Pages
 pub mod Reading
+pub mod Refusals
 pub mod Judging
 pub mod Storing
 pub mod Running

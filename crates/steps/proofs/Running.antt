@@ -1,23 +1,23 @@
 -- A run, turn by turn; and on a valid state it is the model's.
 -- Assumes nothing.
 use mathlib.Core.Path.{◌≡◌, refl, sym, ap, subst, ◌∙◌}
-use mathlib.Core.Bool.{true, false}
+use mathlib.Core.Bool.{true}
 use mathlib.Core.List.{List, [], ◌∷◌, ◌++◌}
-use Prim.Native.Nat.{ℕ, suc, ◌+◌, ◌*◌, ◌-◌, ◌/◌, ◌≤◌, ◌<◌}
+use Prim.Native.Nat.{ℕ, suc, ◌+◌, ◌*◌, ◌-◌, ◌≤◌}
 use native.Mathlib.Omega.{arith}
 use native.Mathlib.Numerals.{add-one}
+use borrow.Author.Tests.{le-ltb}
 use lib.Dec.{eqb}
 use lib.ListN.{length, take, drop}
 use Rattle.laws.specs.Search.{list_from}
-use Rattle.laws.proofs.Cases.{below?, pick_both, pick_yes, pick_not}
-use Rattle.laws.proofs.Tests.{lt⇔, not_so}
+use Rattle.laws.proofs.Cases.{pick_both}
 use Rattle.laws.proofs.Lists.{length_list_of, list_of_more}
 use Rattle.laws.proofs.Search.{Each, each_list_from}
 use Rattle.model.specs.Sizes.{record_bytes, answer_bytes}
 use Rattle.model.specs.State.{State}
 use Rattle.model.specs.Records.{Bytes}
 use Rattle.model.specs.Valid.{Valid, valid?}
-use Rattle.model.specs.Step.{Answer, done, refused, number_of, Outcome, judge}
+use Rattle.model.specs.Step.{Answer, number_of, Outcome, judge}
 use Rattle.model.specs.Run.{Ran, run_by, run}
 use Rattle.model.specs.Journal.{pasted, accepted_in}
 use Rattle.model.proofs.Valid.{valid⇔}
@@ -25,55 +25,29 @@ use Rattle.model.proofs.Bytes.{part_bytes}
 use Rattle.model.proofs.Run.{run_append, run_length}
 use Rattle.keeps.proofs.Keeps.{judge_keeps, run_judges}
 use Rattle.steps.specs.Acting.{judged}
-use Rattle.steps.specs.Parts.{runnable, record_from, records_from, took_of, RunsFirst, Runs}
-use Rattle.steps.specs.declared.Ran.TheVariants.{Took, Refused}
-use Rattle.steps.specs.declared.Answer as code
-use Rattle.steps.specs.Promises.{answer_to, Gives}
-use Rattle.steps.specs.Turns.{answer_from, Stores, Turns, Plays, answer_at, counts}
+use Rattle.steps.specs.Parts.{record_from, records_from}
+use Rattle.steps.specs.Turns.{Turns, Plays, answer_at, counts}
+use Rattle.reader.specs.declared.Reader.{Reader}
+use Rattle.reader.specs.declared.Found.{Found}
+use Rattle.reader.specs.declared.Found.TheVariants.{Record}
+use Rattle.reader.specs.Walk.{found_at, moved_at, moved_of, is_record, number_in}
 use Rattle.steps.proofs.Judging.{judged_valid}
 use Rattle.steps.proofs.Storing.{accepted_more, length_pasted, pasted_more}
 
--- ---- how many can be run
-
-module _ (j : List ℕ) (start : ℕ) (b : List ℕ) where
-  abbrev room : ℕ
-  room = length b / answer_bytes
-
-  abbrev whole : ℕ
-  whole = (length j - start) / record_bytes
-
-  pub whole_runnable : whole ≤ room → whole ≡ runnable j start b
-  whole_runnable h = sym (pick_not room whole (not_so (lt⇔ room whole) (λ k. omega arith)))
-
-  pub room_runnable : room < whole → room ≡ runnable j start b
-  room_runnable h = sym (pick_yes room whole ((lt⇔ room whole).1 h))
-
-  pub none_runnable : length j < start → 0 ≡ runnable j start b
-  none_runnable h = let e : whole ≡ 0 = omega arith in sym e ∙ whole_runnable (omega arith)
-
-  -- they lie in the bytes, and their answers in the buffer
-  pub runnable_fits : (record_bytes * runnable j start b ≤ length j - start) × (answer_bytes * runnable j start b ≤ length b)
-  runnable_fits =
-      below? room whole
-      (λ h. let e = room_runnable h in (omega arith, omega arith))
-      (λ h. let e = whole_runnable h in (omega arith, omega arith))
-
 -- ---- one turn
 
-pub from_to : (x : Answer) → answer_from (answer_to x) ≡ x
-from_to (done v) = refl
-from_to (refused n) = refl
+-- a reader that stands at a record
+module _ (r : Reader) (j : List ℕ) (p : ℕ) (e : r.journal.now ≡ j) (q : r.position ≡ p) (h : p + record_bytes ≤ length j) where
+  pub finds : {f : Found} → f ≡ found_at (length r.journal.now) r.position → (is_record f ≡ true) × (number_in f ≡ p)
+  finds {f} g =
+      let o : f ≡ Record p = g ∙ (λ i. found_at (length (e i)) (q i)) ∙ rw (le-ltb (length j - p) record_bytes (omega arith)) in
+      (ap is_record o, ap number_in o)
 
-pub turned : (s : State) (j : List ℕ) (p : ℕ) (b : List ℕ) (i m : ℕ) → m ≡ record_bytes → {a : code.Answer} {k : ℕ} {t : State} {c : List ℕ}
-    → Gives (judged s (take m (drop p j))) a t → Stores b i a k c → Turns s j p b i k t c
-turned s j p b i m e {a} {k} {t} {c} g w =
-    let d : answer_from a ≡ (judged s (take record_bytes (drop p j))).answer =
-    ap answer_from g.answer ∙ from_to (judged s (take m (drop p j))).answer ∙ ap (λ (x : ℕ). (judged s (take x (drop p j))).answer) e in
-    record {
-      counted = w.counted ∙ ap counts d;
-      state = g.state ∙ ap (λ (x : ℕ). (judged s (take x (drop p j))).state) e;
-      buffer = w.buffer ∙ ap (answer_at b i) d;
-    }
+  pub moves : {m : Reader} → m ≡ moved_of r → (m.journal.now ≡ j) × (m.position ≡ p + record_bytes)
+  moves {m} g =
+      let o : moved_at (length r.journal.now) r.position ≡ p + record_bytes =
+      (λ i. moved_at (length (e i)) (q i)) ∙ rw (le-ltb (length j - p) record_bytes (omega arith)) in
+      (ap (λ (x : Reader). x.journal.now) g ∙ e, ap (λ (x : Reader). x.position) g ∙ o)
 
 pub counts_most : (x : Answer) → counts x ≤ 1
 counts_most x = pick_both (λ (k : ℕ). k ≤ 1) (eqb (number_of x) 0) (λ e. omega arith) (λ e. omega arith)
@@ -153,29 +127,3 @@ run_judged {s} v (r ∷ rs) b =
 
 pub run_as_judged : (s : State) → valid? s ≡ true → (rs : List (List ℕ)) → Each Bytes rs → run_by judged s rs ≡ run s rs
 run_as_judged s e rs y = let v = (valid⇔ s).0 e in run_judged v rs y ∙ sym (run_judges v rs y)
-
-module _ (s : State) (j : List ℕ) (start : ℕ) (b : List ℕ) (n : ℕ) where
-  first_played : valid? s ≡ true → Bytes j → {k : ℕ} {t : State} {c : List ℕ} → Plays s j start n b k t c
-      → RunsFirst n s j start b (Took n k) t c
-  first_played e w p =
-      let rs = records_from j start n in
-      let r : run_by judged s rs ≡ run s rs = run_as_judged s e rs (records_from_bytes j w start n) in
-      record {
-        result = ap (Took n) (p.counted ∙ ap (λ (x : Ran). accepted_in x.answers) r) ∙ sym (pick_yes (took_of (run s rs) n) (Refused 1) e);
-        state = p.state ∙ ap (λ (x : Ran). x.state) r ∙ sym (pick_yes (run s rs).state s e);
-        buffer = p.buffer ∙ ap (λ (x : Ran). pasted x.answers b) r ∙ sym (pick_yes (pasted (run s rs).answers b) b e);
-      }
-
-  pub runs_played : n ≡ runnable j start b → valid? s ≡ true → Bytes j → {k : ℕ} {t : State} {c : List ℕ} → Plays s j start n b k t c
-      → Runs s j start b (Took n k) t c
-  runs_played q e w {k} {t} {c} p = subst (λ (m : ℕ). RunsFirst m s j start b (Took n k) t c) q (first_played e w p)
-
-pub runs_refused : (s : State) (j : List ℕ) (start : ℕ) (b : List ℕ) → valid? s ≡ false → Runs s j start b (Refused 1) s b
-runs_refused s j start b e =
-    let n = runnable j start b in
-    let r = run s (records_from j start n) in
-    record {
-      result = sym (pick_not (took_of r n) (Refused 1) e);
-      state = sym (pick_not r.state s e);
-      buffer = sym (pick_not (pasted r.answers b) b e);
-    }

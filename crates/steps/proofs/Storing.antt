@@ -1,83 +1,40 @@
 -- Answers stored one after another.
 -- Assumes nothing.
-use mathlib.Core.Path.{◌≡◌, sym, ap, ◌∙◌}
-use mathlib.Core.List.{List, [], ◌∷◌, ◌++◌, append-nil}
-use Prim.Native.Nat.{ℕ, suc, ◌+◌, ◌*◌, ◌/◌, ◌%◌, ◌^◌, ◌≤◌}
+use mathlib.Core.Path.{◌≡◌, refl, sym, ap, ◌∙◌}
+use mathlib.Core.List.{List, [], ◌∷◌, ◌++◌, append_assoc, append-nil}
+use Prim.Native.Nat.{ℕ, ◌+◌, ◌*◌, ◌≤◌}
 use native.Mathlib.Omega.{arith}
-use lib.ListN.{length, drop, set, length-append, length-drop, length-set, drop_of_length-le}
-use lib.Seq.{sets, sets-eq, take_at, drop-append-add, drop-drop}
-use Rattle.model.specs.Sizes.{answer_bytes, answer_value_at, byte_bound}
-use Rattle.model.specs.Records.{word_bytes}
+use lib.ListN.{length, take, drop, length-append, length-drop}
+use lib.Seq.{sets-eq, take_at, drop-append-add, drop-drop}
+use mir.Val.{bool_byte}
+use Rattle.laws.proofs.Cases.{pick_not}
+use Rattle.laws.proofs.Tests.{eq⇔, not_so}
+use Rattle.model.specs.Sizes.{answer_bytes}
 use Rattle.model.specs.Step.{Answer}
 use Rattle.model.specs.Journal.{answer_bytes_of, written, pasted, accepted_in}
 use Rattle.model.proofs.Journal.{written_more, length_written}
+use Rattle.std.specs.Prelude.{Result, Ok, Err, is_ok}
+use Rattle.numbers.specs.declared.refusal.Refusal.{Refusal}
+use Rattle.numbers.specs.Refusals.{refusal_number}
+use Rattle.steps.specs.Promises.{answer_from}
 use Rattle.steps.specs.Turns.{answer_at, counts}
+use Rattle.steps.proofs.Refusals.{some_number}
 
--- ---- the bytes of an answer, one after another
+-- an answer's bytes d, m of them, between what is before them and what is behind
+pub stored : (b : List ℕ) (i m : ℕ) (x : Answer) {d : List ℕ} → answer_bytes * i + answer_bytes ≤ length b → m ≡ answer_bytes → d ≡ answer_bytes_of x
+    → take (answer_bytes * i) b ++ (d ++ drop m (drop (answer_bytes * i) b)) ≡ answer_at b i x
+stored b i m x {d} h e f =
+    let at = answer_bytes * i in
+    let z : answer_at b i x ≡ take at b ++ answer_bytes_of x ++ drop (at + answer_bytes) b = sets-eq (answer_bytes_of x) b at h in
+    (λ k. take at b ++ (f k ++ drop (e k) (drop at b)))
+    ∙ ap (λ (l : List ℕ). take at b ++ (answer_bytes_of x ++ l)) (drop-drop answer_bytes at b)
+    ∙ sym (append_assoc (take at b) (answer_bytes_of x) (drop (at + answer_bytes) b))
+    ∙ sym z
 
-module _ (l : List ℕ) (a n v : ℕ) where
-  abbrev l1 : List ℕ
-  l1 = set l a n
-
-  abbrev l2 : List ℕ
-  l2 = set l1 (a + 1) 0
-
-  abbrev l3 : List ℕ
-  l3 = set l2 (a + 2) 0
-
-  abbrev l4 : List ℕ
-  l4 = set l3 (a + 3) 0
-
-  abbrev l5 : List ℕ
-  l5 = set l4 (a + answer_value_at) (v % byte_bound)
-
-  abbrev l6 : List ℕ
-  l6 = set l5 (a + answer_value_at + 1) (v / byte_bound % byte_bound)
-
-  abbrev l7 : List ℕ
-  l7 = set l6 (a + answer_value_at + 2) (v / byte_bound ^ 2 % byte_bound)
-
-  abbrev l8 : List ℕ
-  l8 = set l7 (a + answer_value_at + 3) (v / byte_bound ^ 3 % byte_bound)
-
-  pub long1 : length l1 ≡ length l
-  long1 = length-set l a n
-
-  pub long2 : length l2 ≡ length l
-  long2 = length-set l1 (a + 1) 0 ∙ long1
-
-  pub long3 : length l3 ≡ length l
-  long3 = length-set l2 (a + 2) 0 ∙ long2
-
-  pub long4 : length l4 ≡ length l
-  long4 = length-set l3 (a + 3) 0 ∙ long3
-
-  pub long5 : length l5 ≡ length l
-  long5 = length-set l4 (a + answer_value_at) (v % byte_bound) ∙ long4
-
-  pub long6 : length l6 ≡ length l
-  long6 = length-set l5 (a + answer_value_at + 1) (v / byte_bound % byte_bound) ∙ long5
-
-  pub long7 : length l7 ≡ length l
-  long7 = length-set l6 (a + answer_value_at + 2) (v / byte_bound ^ 2 % byte_bound) ∙ long6
-
-  pub stored : l8 ≡ sets l a (n ∷ 0 ∷ 0 ∷ 0 ∷ word_bytes v)
-  stored =
-      let e1 : a + 1 ≡ suc a = omega arith in
-      let e2 : a + 2 ≡ suc (suc a) = omega arith in
-      let e3 : a + 3 ≡ suc (suc (suc a)) = omega arith in
-      let e4 : a + answer_value_at ≡ suc (suc (suc (suc a))) = omega arith in
-      let e5 : a + answer_value_at + 1 ≡ suc (suc (suc (suc (suc a)))) = omega arith in
-      let e6 : a + answer_value_at + 2 ≡ suc (suc (suc (suc (suc (suc a))))) = omega arith in
-      let e7 : a + answer_value_at + 3 ≡ suc (suc (suc (suc (suc (suc (suc a)))))) = omega arith in
-      cc (e1, e2, e3, e4, e5, e6, e7)
-
--- a buffer of one answer holds that answer
-pub stored_whole : (b : List ℕ) (x : Answer) → length b ≡ answer_bytes → answer_at b 0 x ≡ answer_bytes_of x
-stored_whole b x h =
-    sets-eq (answer_bytes_of x) b 0 (omega arith)
-    ∙ ap (λ (l : List ℕ). answer_bytes_of x ++ l) (drop_of_length-le b {i = answer_bytes} (omega arith))
-    ∙ append-nil (answer_bytes_of x)
+-- what an answer counts
+pub counted : (a : Result ℕ Refusal) → bool_byte (is_ok a) ≡ counts (answer_from a)
+counted (Ok v) = refl
+counted (Err r) = sym (pick_not 1 0 (not_so (eq⇔ (refusal_number r) 0) (some_number r)))
 
 -- ---- answers one after another
 

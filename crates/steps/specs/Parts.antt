@@ -1,6 +1,6 @@
 -- The run over a part of records: those that lie one after another from a place on, as many as are whole and have room for their answers.
 -- Assumes nothing.
-use Rattle.std.specs.Prelude.{◌≡◌, List, [], ◌∷◌, ℕ, zero, suc, ◌+◌, ◌*◌, ◌-◌, ◌/◌, min, ltb, length, take, drop}
+use Rattle.std.specs.Prelude.{◌≡◌, Result, Ok, Err, List, [], ◌∷◌, ℕ, zero, suc, ◌+◌, ◌*◌, ◌-◌, ◌/◌, min, ltb, length, take, drop}
 use Rattle.laws.specs.Choice.{pick}
 use Rattle.laws.specs.Search.{list_of}
 use Rattle.model.specs.Sizes.{record_bytes, answer_bytes}
@@ -9,8 +9,9 @@ use Rattle.model.specs.Valid.{valid?}
 use Rattle.model.specs.Run.{run}
 use Rattle.model.specs.Run as model
 use Rattle.model.specs.Journal.{pasted, accepted_in}
+use Rattle.numbers.specs.declared.refusal.Refusal.{Refusal}
+use Rattle.numbers.specs.declared.refusal.Refusal.TheVariants.{NotValid}
 use Rattle.steps.specs.declared.Ran.{Ran}
-use Rattle.steps.specs.declared.Ran.TheVariants.{Took, Refused}
 
 -- record n of bytes j from place `start` on
 abbrev pub record_from : List ℕ → ℕ → ℕ → List ℕ
@@ -26,16 +27,16 @@ records_from j start n = list_of n (record_from j start)
 
 -- how many were taken, and accepted
 abbrev pub took_of : model.Ran → ℕ → Ran
-took_of r n = Took n (accepted_in r.answers)
+took_of r n = record { taken = n; accepted = accepted_in r.answers }
 
 -- the run of the first n records, on a valid state; on another, refused with 1 and all as it was
-pub record RunsFirst (n : ℕ) (s : State) (j : List ℕ) (start : ℕ) (b : List ℕ) (r : Ran) (t : State) (c : List ℕ) : Type 0 where
-  pub result : r ≡ pick (valid? s) (took_of (run s (records_from j start n)) n) (Refused 1)
+pub record RunsFirst (n : ℕ) (s : State) (j : List ℕ) (start : ℕ) (b : List ℕ) (r : Result Ran Refusal) (t : State) (c : List ℕ) : Type 0 where
+  pub result : r ≡ pick (valid? s) (Ok (took_of (run s (records_from j start n)) n)) (Err NotValid)
   pub state : t ≡ pick (valid? s) (run s (records_from j start n)).state s
   pub buffer : c ≡ pick (valid? s) (pasted (run s (records_from j start n)).answers b) b
 
 -- all that can be run
-abbrev pub Runs : State → List ℕ → ℕ → List ℕ → Ran → State → List ℕ → Type 0
+abbrev pub Runs : State → List ℕ → ℕ → List ℕ → Result Ran Refusal → State → List ℕ → Type 0
 Runs s j start b r t c = RunsFirst (runnable j start b) s j start b r t c
 
 -- ---- at most so many, the first of them put together elsewhere
@@ -56,10 +57,10 @@ abbrev pub most_of : ℕ → List ℕ → List ℕ → ℕ → List ℕ → ℕ
 most_of n first j start b = min n (min (length b / answer_bytes) (together_count first + (length j - start) / record_bytes))
 
 -- the run of n of them, as above
-pub record RunsJoined (n : ℕ) (s : State) (first j : List ℕ) (start : ℕ) (b : List ℕ) (r : Ran) (t : State) (c : List ℕ) : Type 0 where
-  pub result : r ≡ pick (valid? s) (took_of (run s (joined_records first j start n)) n) (Refused 1)
+pub record RunsJoined (n : ℕ) (s : State) (first j : List ℕ) (start : ℕ) (b : List ℕ) (r : Result Ran Refusal) (t : State) (c : List ℕ) : Type 0 where
+  pub result : r ≡ pick (valid? s) (Ok (took_of (run s (joined_records first j start n)) n)) (Err NotValid)
   pub state : t ≡ pick (valid? s) (run s (joined_records first j start n)).state s
   pub buffer : c ≡ pick (valid? s) (pasted (run s (joined_records first j start n)).answers b) b
 
-abbrev pub RunsMost : ℕ → State → List ℕ → List ℕ → ℕ → List ℕ → Ran → State → List ℕ → Type 0
+abbrev pub RunsMost : ℕ → State → List ℕ → List ℕ → ℕ → List ℕ → Result Ran Refusal → State → List ℕ → Type 0
 RunsMost n s first j start b r t c = RunsJoined (most_of n first j start b) s first j start b r t c

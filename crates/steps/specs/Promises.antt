@@ -1,22 +1,21 @@
 -- What the functions of this crate promise: the answer, and the state that the lent bytes are at exit.
 -- Assumes nothing.
-use Rattle.std.specs.Prelude.{◌≡◌, List, ℕ}
+use Rattle.std.specs.Prelude.{◌≡◌, List, ℕ, Result, Ok, Err}
+use Rattle.numbers.specs.declared.refusal.Refusal.{Refusal}
+use Rattle.numbers.specs.Refusals.{refusal_number}
 use Rattle.model.specs.State.{State}
 use Rattle.model.specs.Records.{Action}
-use Rattle.model.specs.Step.{Outcome, done, refused, step}
-use Rattle.model.specs.Step as model
-use Rattle.steps.specs.declared.Answer.{Answer}
-use Rattle.steps.specs.declared.Answer.TheVariants.{Done, Refused}
+use Rattle.model.specs.Step.{Answer, Outcome, done, refused, step}
 use Rattle.steps.specs.Acting.{answered, performed}
 
--- the model's answers in code
-abbrev pub answer_to : model.Answer → Answer
-answer_to (done v) = Done v
-answer_to (refused n) = Refused n
+-- code's answers as the model's: done with a value, or refused with a number
+abbrev pub answer_from : Result ℕ Refusal → Answer
+answer_from (Ok v) = done v
+answer_from (Err r) = refused (refusal_number r)
 
 -- answer a and state t are those of outcome o
-pub record Gives (o : Outcome) (a : Answer) (t : State) : Type 0 where
-  pub answer : a ≡ answer_to o.answer
+pub record Gives (o : Outcome) (a : Result ℕ Refusal) (t : State) : Type 0 where
+  pub answer : answer_from a ≡ o.answer
   pub state : t ≡ o.state
 
 -- value v and state t are those of action x on s
@@ -25,5 +24,5 @@ pub record Performs (s : State) (x : Action) (v : ℕ) (t : State) : Type 0 wher
   pub state : t ≡ performed s x
 
 -- the step: any bytes l on any state s
-abbrev pub Steps : State → List ℕ → Answer → State → Type 0
+abbrev pub Steps : State → List ℕ → Result ℕ Refusal → State → Type 0
 Steps s l a t = Gives (step s l) a t

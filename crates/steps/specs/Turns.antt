@@ -1,22 +1,17 @@
 -- One turn of a run: a record judged where it lies, and its answer stored.
 -- Assumes nothing.
-use Rattle.std.specs.Prelude.{◌≡◌, List, ℕ, ◌*◌, eqb, take, drop}
+use Rattle.std.specs.Prelude.{◌≡◌, List, ℕ, Result, ◌*◌, eqb, take, drop}
 use Rattle.std.proofs.lemmas.List.Edits.{sets}
 use Rattle.laws.specs.Choice.{pick}
 use Rattle.model.specs.Sizes.{record_bytes, answer_bytes}
 use Rattle.model.specs.State.{State}
-use Rattle.model.specs.Step.{Answer, done, refused, number_of}
+use Rattle.model.specs.Step.{Answer, number_of}
 use Rattle.model.specs.Journal.{answer_bytes_of, accepted_in, pasted}
 use Rattle.model.specs.Run.{run_by}
-use Rattle.steps.specs.declared.Answer as code
-use Rattle.steps.specs.declared.Answer.TheVariants.{Done, Refused}
+use Rattle.numbers.specs.declared.refusal.Refusal.{Refusal}
 use Rattle.steps.specs.Acting.{judged}
+use Rattle.steps.specs.Promises.{answer_from}
 use Rattle.steps.specs.Parts.{records_from, joined_records}
-
--- code's answers as the model's
-abbrev pub answer_from : code.Answer → Answer
-answer_from (Done v) = done v
-answer_from (Refused n) = refused n
 
 -- 1 for an answer that is done, 0 for a refusal
 abbrev pub counts : Answer → ℕ
@@ -27,7 +22,7 @@ abbrev pub answer_at : List ℕ → ℕ → Answer → List ℕ
 answer_at b i a = sets b (answer_bytes * i) (answer_bytes_of a)
 
 -- code's answer a is stored as answer i: what it counts, and the buffer
-pub record Stores (b : List ℕ) (i : ℕ) (a : code.Answer) (k : ℕ) (c : List ℕ) : Type 0 where
+pub record Stores (b : List ℕ) (i : ℕ) (a : Result ℕ Refusal) (k : ℕ) (c : List ℕ) : Type 0 where
   pub counted : k ≡ counts (answer_from a)
   pub buffer : c ≡ answer_at b i (answer_from a)
 

@@ -1,8 +1,8 @@
-// An action on the host's bytes: judged, done or refused by its number, and answered.
+// An action on the host's bytes: judged, done or refused, and answered.
 #![tactic(auto)]
 
 mod most; // most.rt: the run over at most so many records, the first of them put together elsewhere
-mod part; // part.rt: the run over records that lie one after another
+mod part; // part.rt: records that lie one after another, and the bytes of their answers
 mod perform; // perform.rt: what an action does, and what it answers
 
 ghost use Rattle.host.specs.View.{view};
@@ -11,58 +11,44 @@ ghost use Rattle.steps.specs.Acting.{acted, judged};
 ghost use Rattle.steps.specs.Promises.{Gives, Steps};
 
 use host::Host;
-pub use most::run_most;
-pub use part::{ANSWER, ANSWER_VALUE, put_answer, run};
+pub use most::{run, run_most};
+use numbers::Refusal;
+pub use part::{ANSWER, ANSWER_VALUE, put_answer};
 use perform::perform;
-use records::{Action, Decoded};
+use records::Action;
 
-// done with a value, or refused with a number
+// of a run: how many records were taken, and how many of these accepted
 #[derive(Clone, Copy)]
-pub enum Answer {
-    Done(u32),
-    Refused(u8),
+pub struct Ran {
+    pub taken: usize,
+    pub accepted: usize,
 }
-
-// of a run: how many records were taken and how many of these accepted, or the number of the refusal
-#[derive(Clone, Copy)]
-pub enum Ran {
-    Took(usize, usize),
-    Refused(u8),
-}
-
-const NOT_VALID: u8 = 1;
-
-const NO_RECORD: u8 = 2;
 
 // Checks from 3 on, and the step.
-fn act(h: &mut Host, x: Action) -> Answer
+#[tactic(auto, using(crate::proofs::Judging::acted_refused, crate::proofs::Judging::acted_done))]
+fn act(h: &mut Host, x: Action) -> Result<u32, Refusal>
     ensures { Gives (acted (view h.old) (action_from x)) result (view h.new) }
 {
-    let n = asks::refusal(h, x);
-    if n != 0 {
-        return Answer::Refused(n);
-    }
-    Answer::Done(perform(h, x))
+    asks::check(h, x)?;
+    Ok(perform(h, x))
 }
 
 // The bytes of a record, judged where they lie, on a state that is taken for valid.
-fn judge(h: &mut Host, bytes: &[u8]) -> Answer
+#[tactic(auto, using(crate::proofs::Judging::judged_bad))]
+fn judge(h: &mut Host, bytes: &[u8]) -> Result<u32, Refusal>
     ensures { Gives (judged (view h.old) bytes.now) result (view h.new) }
 {
-    let d = records::decode(bytes);
-    match d {
-        Decoded::Is(x) => act(h, x),
-        Decoded::Bad => Answer::Refused(NO_RECORD),
-    }
+    let x = records::decode(bytes).ok_or(Refusal::NoRecord)?;
+    act(h, x)
 }
 
 // The step: any bytes on any state.
-pub fn step(h: &mut Host, bytes: &[u8]) -> Answer
+#[tactic(auto, using(crate::proofs::Judging::step_refused))]
+pub fn step(h: &mut Host, bytes: &[u8]) -> Result<u32, Refusal>
     ensures { Steps (view h.old) bytes.now result (view h.new) }
 {
-    if rules::valid(h) {
-        judge(h, bytes)
-    } else {
-        Answer::Refused(NOT_VALID)
+    if !rules::valid(h) {
+        return Err(Refusal::NotValid);
     }
+    judge(h, bytes)
 }

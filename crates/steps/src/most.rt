@@ -1,13 +1,15 @@
-// The run over at most so many records: one that was put together elsewhere, where there is one, and then those that lie one after another.
-ghost use Rattle.std.specs.Prelude.{◌≡◌, ◌*◌, ◌-◌, ◌/◌, ◌≤◌, min, length};
+// The run over at most so many records: check 1 once, then one that was put together elsewhere, where there is one, and those that lie one after
+// another.
+ghost use Rattle.std.specs.Prelude.{◌≡◌, ◌*◌, ◌-◌, ◌/◌, ◌≤◌, length};
 ghost use Rattle.model.specs.Sizes.{record_bytes, answer_bytes};
 ghost use Rattle.host.specs.View.{view};
-ghost use Rattle.steps.specs.Parts.{together_count, most_of, RunsMost};
+ghost use Rattle.steps.specs.Parts.{together_count, most_of, Runs, RunsMost};
 ghost use Rattle.steps.specs.Turns.{JudgesFirst, PlaysJoined};
 
-use super::part::{ANSWER, RECORD, play, store};
-use super::{NOT_VALID, Ran, judge};
+use super::part::{ANSWER, play, store};
+use super::{Ran, judge};
 use host::Host;
+use numbers::Refusal;
 
 // The record, judged where it lies, its answer the first; 1 if it is done.
 fn judge_first(h: &mut Host, first: &[u8], out: &mut [u8]) -> usize
@@ -30,7 +32,7 @@ fn play_joined(
     requires room { answer_bytes * n ≤ length out.old }
     ensures { PlaysJoined (view h.old) first.now j.now start n out.old result (view h.new) out.new }
 {
-    if first.len() == 0 {
+    if first.is_empty() {
         return play(h, j, start, out, n);
     }
     if n == 0 {
@@ -41,25 +43,17 @@ fn play_joined(
     counted + accepted
 }
 
+// One record, unless it has no bytes.
 fn together(first: &[u8]) -> usize
     ensures { (result ≡ together_count first.now) × (result ≤ 1) }
 {
-    if first.len() == 0 { 0 } else { 1 }
+    usize::from(!first.is_empty())
 }
 
 fn whole(j: &[u8], start: usize) -> usize
     ensures { result ≡ (length j.now - start) / record_bytes }
 {
-    if start > j.len() {
-        return 0;
-    }
-    (j.len() - start) / RECORD
-}
-
-fn smaller(a: usize, b: usize) -> usize
-    ensures { result ≡ min a b }
-{
-    if a < b { a } else { b }
+    j.len().saturating_sub(start) / reader::RECORD
 }
 
 // How many: no more than are allowed, than there are, and than have room for their answers.
@@ -67,18 +61,33 @@ fn most(n: usize, first: &[u8], j: &[u8], start: usize, out: &[u8]) -> usize
     ensures { result ≡ most_of n first.now j.now start out.now }
 {
     let there = together(first) + whole(j, start);
-    smaller(n, smaller(out.len() / ANSWER, there))
+    n.min(out.len() / ANSWER).min(there)
 }
 
 // The record that was put together, unless it has no bytes, and those of j from `start` on are run, at most n of them.
-pub fn run_most(h: &mut Host, first: &[u8], j: &[u8], start: usize, out: &mut [u8], n: usize) -> Ran
+#[tactic(auto, using(crate::proofs::Joining::most_refused))]
+pub fn run_most(
+    h: &mut Host,
+    first: &[u8],
+    j: &[u8],
+    start: usize,
+    out: &mut [u8],
+    n: usize,
+) -> Result<Ran, Refusal>
     ensures { RunsMost n (view h.old) first.now j.now start out.old result (view h.new) out.new }
 {
-    if rules::valid(h) {
-        let m = most(n, first, j, start, out);
-        let accepted = play_joined(h, first, j, start, out, m);
-        Ran::Took(m, accepted)
-    } else {
-        Ran::Refused(NOT_VALID)
+    if !rules::valid(h) {
+        return Err(Refusal::NotValid);
     }
+    let taken = most(n, first, j, start, out);
+    let accepted = play_joined(h, first, j, start, out, taken);
+    Ok(Ran { taken, accepted })
+}
+
+// The records from `start` on are run, as many as are whole and have room for their answers.
+#[tactic(auto, using(crate::proofs::Joining::runs_all))]
+pub fn run(h: &mut Host, j: &[u8], start: usize, out: &mut [u8]) -> Result<Ran, Refusal>
+    ensures { Runs (view h.old) j.now start out.old result (view h.new) out.new }
+{
+    run_most(h, &[], j, start, out, usize::MAX)
 }

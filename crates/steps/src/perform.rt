@@ -9,83 +9,70 @@ ghost use Rattle.host.specs.View.{view};
 ghost use Rattle.numbers.specs.Lead.{toward};
 ghost use Rattle.acts.specs.Mapped.{created};
 ghost use Rattle.asks.specs.Actions.{action_from};
-ghost use Rattle.steps.specs.Acting.{on_page, performed};
+ghost use Rattle.steps.specs.Acting.{on_page};
 ghost use Rattle.steps.specs.Promises.{Performs};
 
-use host::{Host, Lead, Pa, Va};
+use host::{Host, Ma, Pa, Va};
 use records::Action;
 
 // Where an address leads: by the table in force. The TLB is not asked, so no old translation is followed.
-fn led(h: &Host, a: Va) -> Lead
+fn led(h: &Host, a: Va) -> Option<Ma>
     ensures { result ≡ toward (mapped (view h.now).shape a.0) }
 {
     asks::mapped(h, a)
 }
 
+#[tactic(auto, unfolding(crate::specs::Acting::performed, crate::specs::Acting::answered))]
 fn read(h: &mut Host, a: Va) -> u32
     ensures { Performs (view h.old) (model.read a.0) result (view h.new) }
 {
-    let l = led(h, a);
-    match l {
-        Lead::To(p) => acts::read::read(h, a, p),
-        Lead::Nowhere => 0,
+    match led(h, a) {
+        Some(p) => acts::read::read(h, a, p),
+        None => 0,
     }
 }
 
 fn write(h: &mut Host, a: Va, v: u32)
     ensures { view h.new ≡ on_page (mapped (view h.old).shape a.0) (λ p. write_step (view h.old) a.0 p v) (view h.old) }
 {
-    let l = led(h, a);
-    match l {
-        Lead::To(p) => acts::write::write(h, a, p, v),
-        Lead::Nowhere => {}
+    if let Some(p) = led(h, a) {
+        acts::write::write(h, a, p, v);
     }
 }
 
 fn new(h: &mut Host, a: Va, b: Pa)
     ensures { view h.new ≡ on_page (here (view h.old).shape b.0) (created (view h.old) a.0) (view h.old) }
 {
-    let l = asks::here(h, b);
-    match l {
-        Lead::To(p) => acts::new::new(h, a, p),
-        Lead::Nowhere => {}
+    if let Some(p) = asks::here(h, b) {
+        acts::new::new(h, a, p);
     }
 }
 
 fn new_sm(h: &mut Host, b: Pa)
     ensures { view h.new ≡ on_page (here (view h.old).shape b.0) (new_sm_step (view h.old)) (view h.old) }
 {
-    let l = asks::here(h, b);
-    match l {
-        Lead::To(p) => acts::new_sm::new_sm(h, p),
-        Lead::Nowhere => {}
+    if let Some(p) = asks::here(h, b) {
+        acts::new_sm::new_sm(h, p);
     }
 }
 
 fn unpin(h: &mut Host, b: Pa)
     ensures { view h.new ≡ on_page (here (view h.old).shape b.0) (unpin_step (view h.old) b.0) (view h.old) }
 {
-    let l = asks::here(h, b);
-    match l {
-        Lead::To(p) => acts::unpin::unpin(h, b, p),
-        Lead::Nowhere => {}
+    if let Some(p) = asks::here(h, b) {
+        acts::unpin::unpin(h, b, p);
     }
 }
 
-// What an action does, its value apart.
-fn change(h: &mut Host, x: Action)
-    ensures { view h.new ≡ performed (view h.old) (action_from x) }
+// A read answers the value of its page, every other action 0.
+#[tactic(auto, unfolding(crate::specs::Acting::performed, crate::specs::Acting::answered))]
+pub(crate) fn perform(h: &mut Host, x: Action) -> u32
+    ensures { Performs (view h.old) (action_from x) result (view h.new) }
 {
     match x {
         Action::Silent => {}
-        Action::Read(a) => {
-            read(h, a);
-        }
-        Action::ReadHyper(a) => {
-            read(h, a);
-        }
-        Action::Write(a, v) => write(h, a, v),
-        Action::WriteHyper(a, v) => write(h, a, v),
+        Action::Read(a) | Action::ReadHyper(a) => return read(h, a),
+        Action::Write(a, v) | Action::WriteHyper(a, v) => write(h, a, v),
         Action::New(a, b) => new(h, a, b),
         Action::NewSm(b) => new_sm(h, b),
         Action::Del(a) => acts::del::del(h, a),
@@ -98,18 +85,5 @@ fn change(h: &mut Host, x: Action)
         Action::Unpin(b) => unpin(h, b),
         Action::Drop(g) => acts::drop::drop(h, g),
     }
-}
-
-// A read answers the value of its page, every other action 0.
-pub(crate) fn perform(h: &mut Host, x: Action) -> u32
-    ensures { Performs (view h.old) (action_from x) result (view h.new) }
-{
-    match x {
-        Action::Read(a) => read(h, a),
-        Action::ReadHyper(a) => read(h, a),
-        _ => {
-            change(h, x);
-            0
-        }
-    }
+    0
 }

@@ -1,5 +1,5 @@
 pub mod Rows
-pub mod Names
+pub mod Tables
 pub mod Answers
 pub mod Room
 pub mod Samples

@@ -1,8 +1,8 @@
--- The forms of the code, read as those of Words.antt; and the rule that has a part for each field.
+-- The forms of the code, read as those of Words.antt.
 -- Assumes nothing.
-use Rattle.std.specs.Prelude.{ℕ}
+use Rattle.std.specs.Prelude.{Option, Some, None}
 use Rattle.words.specs.declared.Form.{Form}
-use Rattle.words.specs.declared.Form.TheVariants.{Guest, Page, Physical, Entry, Way, Slot, StealthWay, StealthHistory, Number, None}
+use Rattle.words.specs.declared.Form.TheVariants.{Guest, Page, Physical, Entry, Way, Slot, StealthWay, StealthHistory, Number}
 use Rattle.words.specs.Words as words
 
 abbrev pub form_from : Form → words.Form
@@ -15,7 +15,7 @@ form_from Slot = words.a_slot
 form_from StealthWay = words.a_stealth_way
 form_from StealthHistory = words.the_stealth_history
 form_from (Number f) = words.a_number f
-form_from None = words.no_form
 
-abbrev pub numbers_rule : ℕ
-numbers_rule = 10
+abbrev pub form_or_none : Option Form → words.Form
+form_or_none (Some f) = form_from f
+form_or_none None = words.no_form

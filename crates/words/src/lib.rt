@@ -1,10 +1,13 @@
 // The lines that are printed of the rules: that one holds, or the first place where it is broken, in the words of docs/RULES.md.
 #![tactic(auto)]
 
-ghost use Rattle.std.specs.Prelude.{◌≡◌, [], ◌∷◌, ◌++◌, ◌-◌, ◌/◌, ◌%◌, ◌≤◌, ◌<◌, length, get_or, take, drop};
-ghost use Rattle.print.specs.Text.{page, typed_all, decimal_of};
-ghost use Rattle.words.specs.Words.{field_names, no_form, a_number, the_stealth_history, form_of, words_of, holds_line, broken_line};
-ghost use Rattle.words.specs.Forms.{numbers_rule, form_from};
+ghost use Rattle.std.specs.Prelude.{◌≡◌, [], ◌++◌, ◌/◌, ◌%◌, ◌<◌, get_or, map};
+ghost use Rattle.print.specs.Text.{decimal_of};
+ghost use Rattle.print.specs.Pages.{typed_all_on};
+ghost use Rattle.words.specs.Words.{field_names, forms, a_number, the_stealth_history, form_of, words_of, holds_line, broken_line};
+ghost use Rattle.words.specs.Forms.{form_from, form_or_none};
+
+use print::Page;
 
 // The bytes of the longest line.
 pub const LONGEST: usize = 32;
@@ -22,14 +25,30 @@ const LINE_END: u8 = b'\n';
 
 const FIELDS: usize = 20;
 
-const NUMBERS: u8 = FIELDS as u8;
-
-// Where each field's name starts in the names, and where the last one ends.
-const NAME_STARTS: [usize; FIELDS + 1] = [
-    0, 5, 9, 18, 23, 31, 35, 42, 46, 51, 56, 62, 66, 77, 85, 92, 103, 111, 117, 121, 127,
+const FIELD_NAMES: [&str; FIELDS] = [
+    "owner",
+    "kind",
+    "cacheable",
+    "entry",
+    "physical",
+    "free",
+    "current",
+    "call",
+    "callA",
+    "callB",
+    "active",
+    "mode",
+    "lineAddress",
+    "linePage",
+    "history",
+    "slotAddress",
+    "slotPage",
+    "memory",
+    "line",
+    "policy",
 ];
 
-// What the places of a part are.
+// What the places of a part are; a number is of a field.
 #[derive(Clone, Copy)]
 enum Form {
     Guest,
@@ -41,166 +60,148 @@ enum Form {
     StealthWay,
     StealthHistory,
     Number(u8),
-    None,
 }
 
-// ---- what the places are
+// There is no rule 0.
+const ROWS: usize = 12;
 
-// Of a rule with one part.
-fn only(part: u8, f: Form) -> Form
-    ensures { form_from result ≡ get_or (form_from f ∷ []) part no_form }
+// What the places of each part of a rule are: docs/RULES.md, row by row.
+const FORMS: [&[Form]; ROWS] = [
+    &[],
+    &[Form::Guest],
+    &[Form::Page],
+    &[Form::Physical, Form::Page],
+    &[Form::Entry],
+    &[Form::Guest],
+    &[Form::Page],
+    &[Form::Way],
+    &[Form::Slot],
+    &[Form::StealthWay, Form::StealthHistory],
+    &[
+        Form::Number(0),
+        Form::Number(1),
+        Form::Number(2),
+        Form::Number(3),
+        Form::Number(4),
+        Form::Number(5),
+        Form::Number(6),
+        Form::Number(7),
+        Form::Number(8),
+        Form::Number(9),
+        Form::Number(10),
+        Form::Number(11),
+        Form::Number(12),
+        Form::Number(13),
+        Form::Number(14),
+        Form::Number(15),
+        Form::Number(16),
+        Form::Number(17),
+        Form::Number(18),
+        Form::Number(19),
+        Form::Guest,
+        Form::Way,
+        Form::Slot,
+    ],
+    &[Form::Way],
+];
+
+fn row(rule: u8) -> &'static [Form]
+    ensures { map form_from result.now ≡ get_or forms rule [] }
 {
-    match part {
-        0 => f,
-        _ => Form::None,
-    }
+    FORMS.get(rule as usize).copied().unwrap_or(&[])
 }
 
-// Of a rule with two parts.
-fn either(part: u8, f: Form, g: Form) -> Form
-    ensures { form_from result ≡ get_or (form_from f ∷ form_from g ∷ []) part no_form }
+fn form_of(rule: u8, part: u8) -> Option<Form>
+    ensures { form_or_none result ≡ form_of rule part }
 {
-    match part {
-        0 => f,
-        1 => g,
-        _ => Form::None,
-    }
+    row(rule).get(part as usize).copied()
 }
 
-// Of the rule of the numbers: part k is that of field k, and three follow.
-fn of_numbers(part: u8) -> Form
-    ensures { form_from result ≡ form_of numbers_rule part }
+// Empty where there is no such field.
+fn name(field: u8) -> &'static str
+    ensures { result.now ≡ get_or field_names field [] }
 {
-    if part < NUMBERS {
-        return Form::Number(part);
-    }
-    match part - NUMBERS {
-        0 => Form::Guest,
-        1 => Form::Way,
-        2 => Form::Slot,
-        _ => Form::None,
-    }
-}
-
-// By the rule and the part: docs/RULES.md, row by row.
-fn form_of(rule: u8, part: u8) -> Form
-    ensures { form_from result ≡ form_of rule part }
-{
-    match rule {
-        1 => only(part, Form::Guest),
-        2 => only(part, Form::Page),
-        3 => either(part, Form::Physical, Form::Page),
-        4 => only(part, Form::Entry),
-        5 => only(part, Form::Guest),
-        6 => only(part, Form::Page),
-        7 => only(part, Form::Way),
-        8 => only(part, Form::Slot),
-        9 => either(part, Form::StealthWay, Form::StealthHistory),
-        10 => of_numbers(part),
-        11 => only(part, Form::Way),
-        _ => Form::None,
-    }
+    FIELD_NAMES.get(field as usize).copied().unwrap_or("")
 }
 
 // ---- the words for a place
 
-// The bytes from one place to another.
-fn text_part(out: &mut [u8], at: usize, s: &[u8], from: usize, to: usize) -> usize
-    requires { (from ≤ to) × (to ≤ length s.now) }
-    ensures { page out.new result ≡ typed_all (page out.old at) (take (to - from) (drop from s.now)) }
-{
-    print::text(out, at, &s[from..to])
-}
-
-// Nothing where there is no such field.
-fn name(out: &mut [u8], at: usize, field: u8) -> usize
-    ensures { page out.new result ≡ typed_all (page out.old at) (get_or field_names field []) }
-{
-    let f = field as usize;
-    if f < FIELDS {
-        let names =
-            b"ownerkindcacheableentryphysicalfreecurrentcallcallAcallBactivemodelineAddresslinePagehistoryslotAddressslotPagememorylinepolicy";
-        let from = NAME_STARTS[f];
-        let to = NAME_STARTS[f + 1];
-        return text_part(out, at, names, from, to);
-    }
-    at
-}
-
 // A word and a number.
-fn counted(out: &mut [u8], at: usize, word: &[u8], n: u64) -> usize
-    ensures { page out.new result ≡ typed_all (page out.old at) (word.now ++ decimal_of n) }
+#[tactic(auto, using(print::proofs::Pages::typing))]
+fn counted(page: &mut Page, word: &str, n: u64)
+    ensures { page.new ≡ typed_all_on page.old (word.now ++ decimal_of n) }
 {
-    let to = print::text(out, at, word);
-    print::number(out, to, n)
-}
-
-// Two words, each with its number.
-fn paired(out: &mut [u8], at: usize, word: &[u8], n: u64, other: &[u8], m: u64) -> usize
-    ensures { page out.new result ≡ typed_all (page out.old at) (word.now ++ decimal_of n ++ other.now ++ decimal_of m) }
-{
-    let a = counted(out, at, word, n);
-    let b = print::text(out, a, other);
-    print::number(out, b, m)
+    page.text(word);
+    page.number(n);
 }
 
 // Two words, each with its part of a number that counts by rows.
-fn split(out: &mut [u8], at: usize, word: &[u8], other: &[u8], n: u64, by: u64) -> usize
+#[tactic(auto, using(print::proofs::Pages::typing))]
+fn split(page: &mut Page, word: &str, other: &str, n: u64, by: u64)
     requires { 0 < by }
-    ensures { page out.new result ≡ typed_all (page out.old at) (word.now ++ decimal_of (n / by) ++ other.now ++ decimal_of (n % by)) }
+    ensures { page.new ≡ typed_all_on page.old (word.now ++ decimal_of (n / by) ++ other.now ++ decimal_of (n % by)) }
 {
-    paired(out, at, word, n / by, other, n % by)
+    counted(page, word, n / by);
+    counted(page, other, n % by);
 }
 
-fn history_words(out: &mut [u8], at: usize) -> usize
-    ensures { page out.new result ≡ typed_all (page out.old at) (words_of the_stealth_history 0) }
+#[tactic(auto, using(print::proofs::Pages::typing), unfolding(crate::specs::Words::words_of))]
+fn history_words(page: &mut Page)
+    ensures { page.new ≡ typed_all_on page.old (words_of the_stealth_history 0) }
 {
-    let to = counted(out, at, b"set ", STEALTH_SET);
-    print::text(out, to, b" history")
+    counted(page, "set ", STEALTH_SET);
+    page.text(" history");
 }
 
 // A field's name, and the place in the field.
-fn number_words(out: &mut [u8], at: usize, field: u8, place: u64) -> usize
-    ensures { page out.new result ≡ typed_all (page out.old at) (words_of (a_number field) place) }
+#[tactic(auto, using(print::proofs::Pages::typing), unfolding(crate::specs::Words::words_of))]
+fn number_words(page: &mut Page, field: u8, place: u64)
+    ensures { page.new ≡ typed_all_on page.old (words_of (a_number field) place) }
 {
-    let to = name(out, at, field);
-    counted(out, to, b" ", place)
+    page.text(name(field));
+    counted(page, " ", place);
 }
 
-fn place_words(out: &mut [u8], at: usize, f: Form, place: u16) -> usize
-    ensures { page out.new result ≡ typed_all (page out.old at) (words_of (form_from f) place) }
+#[tactic(auto, using(print::proofs::Pages::typing), unfolding(crate::specs::Words::words_of))]
+fn place_words(page: &mut Page, f: Option<Form>, place: u16)
+    ensures { page.new ≡ typed_all_on page.old (words_of (form_or_none f) place) }
 {
     let n = place as u64;
     match f {
-        Form::Guest => counted(out, at, b"guest ", n),
-        Form::Page => counted(out, at, b"page ", n),
-        Form::Physical => split(out, at, b"guest ", b" physical ", n, PHYSICALS),
-        Form::Entry => split(out, at, b"page ", b" address ", n, ADDRESSES),
-        Form::Way => split(out, at, b"set ", b" way ", n, WAYS),
-        Form::Slot => counted(out, at, b"slot ", n),
-        Form::StealthWay => paired(out, at, b"set ", STEALTH_SET, b" way ", n),
-        Form::StealthHistory => history_words(out, at),
-        Form::Number(field) => number_words(out, at, field, n),
-        Form::None => at,
+        Some(Form::Guest) => counted(page, "guest ", n),
+        Some(Form::Page) => counted(page, "page ", n),
+        Some(Form::Physical) => split(page, "guest ", " physical ", n, PHYSICALS),
+        Some(Form::Entry) => split(page, "page ", " address ", n, ADDRESSES),
+        Some(Form::Way) => split(page, "set ", " way ", n, WAYS),
+        Some(Form::Slot) => counted(page, "slot ", n),
+        Some(Form::StealthWay) => {
+            counted(page, "set ", STEALTH_SET);
+            counted(page, " way ", n);
+        }
+        Some(Form::StealthHistory) => history_words(page),
+        Some(Form::Number(field)) => number_words(page, field, n),
+        None => {}
     }
 }
 
 // ---- the lines
 
-pub fn holds_line(out: &mut [u8], at: usize, rule: u8) -> usize
-    ensures { page out.new result ≡ typed_all (page out.old at) (holds_line rule) }
+#[tactic(auto, using(print::proofs::Pages::typing))]
+pub fn holds_line(page: &mut Page, rule: u8)
+    ensures { page.new ≡ typed_all_on page.old (holds_line rule) }
 {
-    let a = print::number(out, at, rule as u64);
-    let b = print::text(out, a, b" holds");
-    print::byte(out, b, LINE_END)
+    page.number(rule as u64);
+    page.text(" holds");
+    page.byte(LINE_END);
 }
 
 // The first broken place is that of this number in this part.
-pub fn broken_line(out: &mut [u8], at: usize, rule: u8, part: u8, place: u16) -> usize
-    ensures { page out.new result ≡ typed_all (page out.old at) (broken_line rule part place) }
+#[tactic(auto, using(print::proofs::Pages::typing))]
+pub fn broken_line(page: &mut Page, rule: u8, part: u8, place: u16)
+    ensures { page.new ≡ typed_all_on page.old (broken_line rule part place) }
 {
-    let a = print::number(out, at, rule as u64);
-    let b = print::text(out, a, b" broken ");
-    let c = place_words(out, b, form_of(rule, part), place);
-    print::byte(out, c, LINE_END)
+    page.number(rule as u64);
+    page.text(" broken ");
+    place_words(page, form_of(rule, part), place);
+    page.byte(LINE_END);
 }

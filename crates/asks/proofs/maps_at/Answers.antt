@@ -1,9 +1,12 @@
--- The invariant: no table passed maps the address to the page. A number past the last address is mapped by none.
+-- The chain answers whether a table maps the address to the page. A number past the last address is mapped by none.
 -- Assumes nothing.
-use mathlib.Core.Path.{◌≡◌, sym, ◌∙◌}
+use Rattle.std.proofs.Common.{rules, tests}
+use Rattle.std.proofs.lemmas.Iterator.{YieldsList-from_range}
+use Rattle.std.proofs.lemmas.Iterator.Search.{any_from_yields_List}
+use mathlib.Core.Path.{◌∙◌}
 use native.Mathlib.Omega.{arith}
-use borrow.Author.Tests.{ne_eqb}
-use Rattle.laws.proofs.Loops.{some_none, some_found, none_more}
+use borrow.Author.Tests.{ne_eqb, le-ltb}
+use Rattle.laws.proofs.Chains.{any_below}
 use Rattle.model.specs.Sizes.{pages}
 use Rattle.host.specs.View.{view}
 use Rattle.host.proofs.Inverse.{view_sized}
@@ -11,45 +14,18 @@ use Rattle.asks.specs.Maps.{table_maps, only_at}
 use Rattle.asks.proofs.Maps.{by_tables, mapped_past}
 use Rattle.asks.proofs.maps_at.Goals as goal
 
-pub returns-then-a-ge-ADDRESSES : goal.returns-then-a-ge-ADDRESSES
-returns-then-a-ge-ADDRESSES c =
+pub returns-then-a-lt-ADDRESSES : goal.returns-then-a-lt-ADDRESSES
+returns-then-a-lt-ADDRESSES c =
     let a = c.args in
-    let w = view_sized a.h.now c.whole.ensures in
-    mapped_past (view a.h.now).shape (only_at a.a.0) a.p.0 w.entry (λ v b. ne_eqb v a.a.0 (λ e. omega (arith, c.if-a-ge-ADDRESSES.true)))
-
-pub loop-t-init : goal.loop-t-init
-loop-t-init c =
-    let a = c.args in
-    (omega arith, some_none (table_maps (view a.h.now).shape (only_at a.a.0) a.p.0))
-
-pub table_at-requires : goal.table_at-requires
-table_at-requires c = omega (arith, c.if-a-ge-ADDRESSES.false)
-
-pub returns-then-table_at : goal.returns-then-table_at
-returns-then-table_at c =
-    let a = c.args in
-    let l = c.loop-t in
-    let w = view_sized a.h.now c.whole.ensures in
     let s = (view a.h.now).shape in
-    let f = only_at a.a.0 in
-    sym (some_found (table_maps s f a.p.0) pages l.t (omega arith) (sym c.table_at.ensures ∙ c.if-table_at.true))
-    ∙ by_tables s f a.p.0 w.entry
+    let f = table_maps s (only_at a.a.0) a.p.0 in
+    let w = view_sized a.h.now c.whole.ensures in
+    any_from_yields_List f _ _ c.any.result c.any.ensures.ran (YieldsList-from_range 0 pages pages (cc) (omega arith)) (λ x b q k. search (rules, tests))
+    ∙ any_below f pages ∙ by_tables s (only_at a.a.0) a.p.0 w.entry
 
-pub overflow_add-t : goal.overflow_add-t
-overflow_add-t c = omega arith
-
-pub loop-t-smaller : goal.loop-t-smaller
-loop-t-smaller c = omega arith
-
-pub loop-t-preserved : goal.loop-t-preserved
-loop-t-preserved c =
-    let a = c.args in
-    let l = c.loop-t in
-    (omega arith, none_more (table_maps (view a.h.now).shape (only_at a.a.0) a.p.0) l.t l.invariant.1 (sym c.table_at.ensures ∙ c.if-table_at.false))
-
-pub returns : goal.returns
-returns c =
+pub returns-else-a-lt-ADDRESSES : goal.returns-else-a-lt-ADDRESSES
+returns-else-a-lt-ADDRESSES c =
     let a = c.args in
     let w = view_sized a.h.now c.whole.ensures in
-    let e : c.loop-t.t ≡ pages = omega arith in
-    sym (rw e at c.loop-t.invariant.1) ∙ by_tables (view a.h.now).shape (only_at a.a.0) a.p.0 w.entry
+    le-ltb _ _ c.if-a-lt-ADDRESSES.false
+    ∙ mapped_past (view a.h.now).shape (only_at a.a.0) a.p.0 w.entry (λ v b. ne_eqb v a.a.0 (λ e. omega (arith, c.if-a-lt-ADDRESSES.false)))

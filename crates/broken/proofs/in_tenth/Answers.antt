@@ -1,54 +1,32 @@
--- The parts passed so far hold; one that is broken ends the loop.
+-- Where rule 10 holds, no place fails.
 -- Assumes nothing.
-use mathlib.Core.Path.{◌≡◌, refl, sym, ap, ◌∙◌}
-use mathlib.Core.List.{[], ◌∷◌}
-use Prim.Native.Nat.{ℕ, suc, ◌+◌}
-use native.Mathlib.Omega.{arith}
-use lib.ListN.{drop}
-use borrow.Author.Tests.{not-true, not-false}
-use Rattle.model.specs.Broken.{parts_of, broken_from, is_holds}
+use mathlib.Core.Path.{refl, sym, ◌∙◌}
+use mathlib.Core.List.{[], ◌∷◌, ◌++◌}
+use Prim.Native.Nat.{◌+◌}
+use Rattle.model.specs.RuleTests.{columns}
+use Rattle.model.specs.Broken.{rule_parts, number_parts, part10_calls, part10_lines, part10_slots}
+use Rattle.model.proofs.RuleTests.{rule10⇔}
+use Rattle.findings.specs.Findings.{statements}
+use Rattle.findings.proofs.Told.{known}
 use Rattle.host.specs.View.{view}
-use Rattle.broken.specs.declared.Part.{Part}
-use Rattle.broken.specs.Findings.{finding_from, part_for, tenth_parts, tenth_of}
-use Rattle.broken.proofs.Sequence.{one_holds, one_breaks, tenth_part, tenth_end}
+use Rattle.host.proofs.Inverse.{view_sized}
+use Rattle.broken.specs.Findings.{field_parts}
+use Rattle.broken.proofs.Sequence.{rule_holds, then_parts}
 use Rattle.broken.proofs.in_tenth.Goals as goal
 
-pub loop-k-init : goal.loop-k-init
-loop-k-init c = (omega arith, refl)
-
-pub returns-then-not-is_holds : goal.returns-then-not-is_holds
-returns-then-not-is_holds c =
-    let l = c.loop-k in
-    let s = view c.args.h.now in
-    let q : finding_from c.in_part-f.result ≡ broken_from l.k (part_for (tenth_of l.k) s ∷ []) =
-    c.in_part-f.ensures ∙ ap (λ (x : Part). broken_from l.k (part_for x s ∷ [])) c.tenth.ensures in
-    let e = ap is_holds (sym q) ∙ sym c.is_holds.ensures ∙ not-true _ c.if-not-is_holds.true-raw in
-    q ∙ sym (one_breaks (part_for (tenth_of l.k) s) (drop (l.k + 1) (parts_of 10 s)) l.k e)
-    ∙ sym (l.invariant.1 ∙ ap (broken_from l.k) (tenth_part l.k s (omega arith)))
-
-pub overflow_add-k : goal.overflow_add-k
-overflow_add-k c = omega arith
-
-pub loop-k-smaller : goal.loop-k-smaller
-loop-k-smaller c = omega arith
-
-pub loop-k-preserved : goal.loop-k-preserved
-loop-k-preserved c =
-    let l = c.loop-k in
-    let s = view c.args.h.now in
-    let q : finding_from c.in_part-f.result ≡ broken_from l.k (part_for (tenth_of l.k) s ∷ []) =
-    c.in_part-f.ensures ∙ ap (λ (x : Part). broken_from l.k (part_for x s ∷ [])) c.tenth.ensures in
-    let e = ap is_holds (sym q) ∙ sym c.is_holds.ensures ∙ not-false _ c.if-not-is_holds.false-raw in
-    let n : suc l.k ≡ l.k + 1 = omega arith in (
-      omega arith,
-      l.invariant.1 ∙ ap (broken_from l.k) (tenth_part l.k s (omega arith))
-          ∙ one_holds (part_for (tenth_of l.k) s) (drop (l.k + 1) (parts_of 10 s)) l.k e
-          ∙ ap (λ (x : ℕ). broken_from x (drop (l.k + 1) (parts_of 10 s))) n,
-    )
+pub returns-then-rule10 : goal.returns-then-rule10
+unfolding statements
+returns-then-rule10 c =
+    let h = c.args.h.now in
+    let z = view_sized h c.whole.ensures in
+    rule_holds 10 (known 10 refl) (view h) z ((rule10⇔ (view h) z).0 (sym c.rule10.ensures ∙ c.if-rule10.true))
 
 pub returns : goal.returns
+unfolding rule_parts number_parts columns
 returns c =
-    let l = c.loop-k in
     let s = view c.args.h.now in
-    let n : l.k ≡ tenth_parts = omega arith in
-    sym (l.invariant.1 ∙ ap (λ (x : ℕ). broken_from x (drop x (parts_of 10 s))) n ∙ tenth_end s)
+    let ps = number_parts (columns s) in
+    then_parts (ps ++ (part10_calls s ∷ part10_lines s ∷ [])) (part10_slots s ∷ []) 0 (field_parts + 2) _ _ refl
+    (then_parts (ps ++ (part10_calls s ∷ [])) (part10_lines s ∷ []) 0 (field_parts + 1) _ _ refl (then_parts ps (part10_calls s ∷ []) 0 field_parts _ _ refl c.in_fields.ensures c.or_else.ensures (λ p. p)) c.or_else-2.ensures (λ p. p))
+    c.or_else-3.ensures
+    (λ p. p)

@@ -1,57 +1,44 @@
 -- Each page that was counted so far is remembered with its address; one that comes at another address ends the loop.
 -- Assumes nothing.
-use mathlib.Core.Path.{◌≡◌, sym, subst}
-use Prim.Native.Nat.{ℕ, ◌/◌, ◌%◌}
+use mathlib.Core.Path.{◌≡◌, sym, subst, ◌∙◌}
+use Prim.Native.Nat.{ℕ, ◌*◌}
 use native.Mathlib.Omega.{arith}
+use lib.ListN.{get_or}
+use Rattle.std.proofs.Common.{rules, tests}
+use Rattle.std.specs.Prelude.{None}
 use Rattle.model.specs.Sizes.{addresses}
 use Rattle.host.specs.View.{view}
-use Rattle.entries.proofs.Shared.{entries, Seen, seen_start, seen_all, pass_clash, pass_more, counted_le, unshared⇔}
+use Rattle.entries.proofs.Shared.{entries, Seen, elsewhere, seen_start, seen_all, pass_past, pass_clash, pass_more, unshared⇔}
 use Rattle.entries.proofs.no_page_shared.Goals as goal
+use Rattle.entries.proofs.no_page_shared.Goals.{in-Some+else-is_some_and, in_default}
 
-pub loop-i-init : goal.loop-i-init
-loop-i-init c = (omega arith, seen_start (view c.args.h.now))
+pub loop-m-init : goal.loop-m-init
+loop-m-init c = seen_start (view c.args.h.now)
 
-pub overflow_cast-a : goal.overflow_cast-a
-overflow_cast-a c = omega arith
+pub returns-then-is_some_and : goal.returns-then-is_some_and
+returns-then-is_some_and c =
+    let s = view c.args.h.now in
+    let a = c.loop-a in
+    let p = c.in-Some.p in
+    let e : c.is_some_and.result ≡ elsewhere s (get_or a.seen p.0 None) a.a-counter = search (rules, tests) in
+    sym (pass_clash s a.seen c.loop-m.m a.a-counter c.loop-m-test.true c.loop-a-test.true a.invariant p (sym c.counted_page.ensures ∙ c.in-Some.is) (sym e ∙ c.if-is_some_and.true))
 
-pub overflow_cast-i : goal.overflow_cast-i
-overflow_cast-i c = omega arith
-
-pub bounds-seen-k : goal.bounds-seen-k
-bounds-seen-k c =
-    let l = c.loop-i in
-    omega (arith, c.counted_page-p.ensures, counted_le (view c.args.h.now) (l.i / addresses) (l.i % addresses))
-
-pub overflow_add-a : goal.overflow_add-a
-overflow_add-a c = omega arith
-
-pub returns-then-k-old : goal.returns-then-k-old
-returns-then-k-old c =
-    let l = c.loop-i in
-    sym (pass_clash (view c.args.h.now) l.seen l.i c.counted_page-p.result.0 l.invariant.1 c.counted_page-p.ensures (omega arith) c.if-k-old.true)
-
-pub overflow_add-seen : goal.overflow_add-seen
-overflow_add-seen c = omega arith
-
-pub bounds-seen-k-in-loop-i : goal.bounds-seen-k-in-loop-i
-bounds-seen-k-in-loop-i c =
-    let l = c.loop-i in
-    omega (arith, c.counted_page-p.ensures, counted_le (view c.args.h.now) (l.i / addresses) (l.i % addresses))
-
-pub overflow_add-i : goal.overflow_add-i
-overflow_add-i c = omega arith
-
-pub loop-i-smaller : goal.loop-i-smaller
-loop-i-smaller c = omega arith
-
-pub loop-i-preserved : goal.loop-i-preserved
-loop-i-preserved c =
-    let l = c.loop-i in
-    (omega arith, pass_more (view c.args.h.now) l.seen l.i c.counted_page-p.result.0 l.invariant.1 c.counted_page-p.ensures c.if-k-old.false)
+pub loop-a-preserved : goal.loop-a-preserved
+loop-a-preserved c =
+    let s = view c.args.h.now in
+    let a = c.loop-a in
+    elim c.match-counted_page.branch [
+      | in-Some+else-is_some_and w ↦
+          let p = w.in-Some.p in
+          let e : w.is_some_and.result ≡ elsewhere s (get_or a.seen p.0 None) a.a-counter = search (rules, tests) in
+          rw w.seen-is (pass_more s a.seen c.loop-m.m a.a-counter c.loop-m-test.true c.loop-a-test.true a.invariant p (sym c.counted_page.ensures ∙ w.in-Some.is) (sym e ∙ w.if-is_some_and.false))
+      | in_default w ↦
+          rw w.seen-is (pass_past s a.seen c.loop-m.m a.a-counter c.loop-m-test.true c.loop-a-test.true a.invariant (sym c.counted_page.ensures ∙ w.in_default.is))
+    ]
 
 pub returns : goal.returns
 returns c =
     let s = view c.args.h.now in
-    let l = c.loop-i in
-    let e : l.i ≡ entries = omega arith in
-    sym ((unshared⇔ s).1 (seen_all s l.seen (subst (λ (k : ℕ). Seen s l.seen k) e l.invariant.1)))
+    let l = c.loop-m in
+    let e : addresses * l.m ≡ entries = omega arith in
+    sym ((unshared⇔ s).1 (seen_all s l.seen (subst (λ (k : ℕ). Seen s l.seen k) e l.invariant)))

@@ -7,11 +7,8 @@ use Rattle.model.specs.Sizes.{pages}
 use Rattle.model.specs.Checks.{lowest_free}
 use Rattle.marks.proofs.lowest.Goals as goal
 
-pub overflow_cast-result : goal.overflow_cast-result
+pub overflow_cast-page : goal.overflow_cast-page
 unfolding lowest_free
-overflow_cast-result c =
+overflow_cast-page c =
     let m = c.args.m in
-    omega (arith, c.lowest_digit.ensures, first_below_le (marks m) pages)
-
-pub returns : goal.returns
-returns c = c.lowest_digit.ensures
+    omega (arith, c.lowest_digit-page.ensures, first_below_le (marks m) pages)

@@ -1,17 +1,13 @@
--- Nothing, or the refusal's line, by the answer's number.
+-- The loading, and what is printed of it.
 -- Assumes nothing.
-use Rattle.host.specs.View.{view}
-use Rattle.output.proofs.Room.{loaded_silent, loaded_refused}
 use Rattle.std.proofs.Common.{rules}
+use Rattle.host.specs.View.{view}
+use Rattle.print.specs.Pages.{typed_all_on}
+use Rattle.output.proofs.Room.{prints_load}
 use Rattle.output.proofs.load.Goals as goal
 
-pub returns-then-number-eq0 : goal.returns-then-number-eq0
-returns-then-number-eq0 c =
-    let a = c.args in
-    loaded_silent (view a.h.now) a.image.now a.out.now c.load-a.ensures c.number-number.result c.number-number.ensures (search rules)
-
 pub returns : goal.returns
+unfolding typed_all_on
 returns c =
     let a = c.args in
-    loaded_refused (view a.h.now) a.image.now a.out.now c.load-a.ensures c.number-number.result c.number-number.ensures _ _ (λ z. search rules)
-    c.refused_line-bytes.ensures
+    prints_load (view a.h.now) a.image.now a.out.now c.load-loaded.ensures (search rules) c.load_lines-status.ensures.status

@@ -1,11 +1,9 @@
--- After i turns the lines of the first i records are typed.
-use Rattle.std.proofs.Common.{◌≡◌, ◌-◌, ◌≤◌}
-use Rattle.print.specs.Text.{page, typed_all}
-use Rattle.output.specs.Output.{record_lines}
+-- After i turns the lines of the first i answers are typed.
+use Rattle.std.proofs.Common.{◌≡◌}
+use Rattle.std.specs.List.{concat}
+use Rattle.print.specs.Pages.{typed_all_on}
+use Rattle.output.specs.Stream.{record_lines_from}
 use Rattle.output.proofs.record_lines.Given as goal
 
 abbrev pub invariant-loop-i : goal.invariant-loop-i
-invariant-loop-i l = (l.i ≤ l.n) × (page l.out l.to ≡ typed_all (page l.initial.out l.at) (record_lines l.i l.answers))
-
-abbrev pub decreases-loop-i : goal.decreases-loop-i
-decreases-loop-i l = l.n - l.i
+invariant-loop-i l = l.page ≡ typed_all_on l.initial.page (record_lines_from l.«before» l.i (concat l.answers))

@@ -1,32 +1,37 @@
 -- The field's own number, or the byte that stands there, against the field's bound.
 -- Assumes nothing.
+use mathlib.Core.Path.{◌≡◌}
+use mathlib.Core.Bool.{false}
 use native.Mathlib.Omega.{arith}
+use lib.Dec.{eqb}
 use lib.ListN.{length}
 use borrow.Author.Tests.{ne_eqb, lt-ltb, le-ltb}
+use Rattle.std.proofs.Common.{rules, tests}
+use Rattle.laws.proofs.Cases.{below?}
 use Rattle.host.specs.View.{active_field, mode_field, policy_field}
 use Rattle.ranges.specs.Ranges.{list_bounds, number_in_range}
 use Rattle.ranges.proofs.number_in_range.Goals as goal
 
-pub returns-then-field-eq-ACTIVE : goal.returns-then-field-eq-ACTIVE
+pub returns-in-10 : goal.returns-in-10
 unfolding number_in_range
-returns-then-field-eq-ACTIVE c = rw (c.if-field-eq-ACTIVE.true, c.active-a.ensures)
+returns-in-10 c = search (rules, tests)
 
-pub returns-then-field-eq-MODE : goal.returns-then-field-eq-MODE
+pub returns-in-11 : goal.returns-in-11
 unfolding number_in_range
-returns-then-field-eq-MODE c = rw (c.if-field-eq-MODE.true, c.mode.ensures)
+returns-in-11 c = search (rules, tests)
 
-pub returns-then-field-eq-POLICY : goal.returns-then-field-eq-POLICY
+pub returns-in-19 : goal.returns-in-19
 unfolding number_in_range
-returns-then-field-eq-POLICY c = rw (c.if-field-eq-POLICY.true, c.policy.ensures)
+returns-in-19 c = search (rules, tests)
 
-pub returns-then-k-lt17 : goal.returns-then-k-lt17
+pub returns-in_default : goal.returns-in_default
 unfolding number_in_range
-returns-then-k-lt17 c =
+returns-in_default c =
     let f = c.args.field in
-    rw (ne_eqb f active_field (λ e. c.if-field-eq-ACTIVE.false e), ne_eqb f mode_field (λ e. c.if-field-eq-MODE.false e), ne_eqb f policy_field (λ e. c.if-field-eq-POLICY.false e), lt-ltb f (length list_bounds) (omega (arith, c.if-k-lt17.true))) c.is_below.ensures
-
-pub returns : goal.returns
-unfolding number_in_range
-returns c =
-    let f = c.args.field in
-    rw (ne_eqb f active_field (λ e. c.if-field-eq-ACTIVE.false e), ne_eqb f mode_field (λ e. c.if-field-eq-MODE.false e), ne_eqb f policy_field (λ e. c.if-field-eq-POLICY.false e), le-ltb f (length list_bounds) (omega (arith, c.if-k-lt17.false)))
+    let x : eqb f active_field ≡ false = ne_eqb f active_field (λ e. omega arith) in
+    let y : eqb f mode_field ≡ false = ne_eqb f mode_field (λ e. omega arith) in
+    let z : eqb f policy_field ≡ false = ne_eqb f policy_field (λ e. omega arith) in
+    rw (x, y, z)
+    (below? f (length list_bounds)
+    (λ h. rw (lt-ltb f (length list_bounds) h) (search (rules, tests)))
+    (λ h. rw (le-ltb f (length list_bounds) h) (search (rules, tests))))

@@ -1,25 +1,20 @@
--- Bytes of another length are bad; eight bytes are what their fields are.
+-- Bytes of another length are none; eight bytes are what their fields are.
 -- Assumes nothing.
-use mathlib.Core.Path.{◌≡◌}
-use native.Mathlib.Omega.{arith}
-use lib.ListN.{length}
-use Rattle.model.specs.Sizes.{record_bytes}
-use Rattle.records.proofs.Bytes.{bad_length, good_fields, bad_fields}
+use Rattle.std.proofs.Common.{rules, tests, ap, ◌∙◌}
+use Rattle.std.proofs.lemmas.Option.{IfSome_then}
+use Rattle.model.specs.Records.{fields_in, well_formed, action_of, decode}
+use Rattle.records.specs.Actions.{fields_from, action_to}
+use Rattle.records.proofs.Bytes.{decoded_law, then_law}
 use Rattle.records.proofs.decode.Goals as goal
 
-pub returns-then-r-ne-RECORD : goal.returns-then-r-ne-RECORD
-returns-then-r-ne-RECORD c = bad_length c.args.r.now (λ e. omega (arith, c.if-r-ne-RECORD.true))
+pub returns-in_err-as_array : goal.returns-in_err-as_array
+unfolding decode
+returns-in_err-as_array c = search (rules, tests)
 
-pub returns-then-well_formed : goal.returns-then-well_formed
-returns-then-well_formed c =
-    let l = c.args.r.now in
-    let n : length l ≡ record_bytes = omega (arith, c.if-r-ne-RECORD.false) in
-    let v = c.word-v in
-    good_fields l v.result n v.ensures c.well_formed-2.ensures c.if-well_formed.true c.action_of.ensures
-
-pub returns-else-well_formed : goal.returns-else-well_formed
-returns-else-well_formed c =
-    let l = c.args.r.now in
-    let n : length l ≡ record_bytes = omega (arith, c.if-r-ne-RECORD.false) in
-    let v = c.word-v in
-    bad_fields l v.result n v.ensures c.well_formed-2.ensures c.if-well_formed.false
+pub returns : goal.returns
+returns c =
+    let k = c.in_ok-as_array.ensures.cases in
+    let f = fields_from c.of-fields.result in
+    then_law (well_formed f) (action_to (action_of f)) c.then.result (c.then.ensures.variant ∙ c.well_formed-2.ensures)
+    (IfSome_then c.then.result c.then.ensures.some (λ x p. search rules))
+    ∙ decoded_law c.args.r.now f k.long (c.of-fields.ensures ∙ ap fields_in k.same)

@@ -1,14 +1,15 @@
 -- The test at each line.
 -- Assumes nothing.
+use Rattle.std.proofs.Common.{rules, tests}
 use mathlib.Core.Path.{◌∙◌}
+use Rattle.model.specs.Sizes.{lines}
 use Rattle.host.specs.View.{view}
-use Rattle.host.proofs.Inverse.{view_sized}
-use Rattle.rules.specs.Tests.{test}
+use Rattle.lines.specs.Lines.{lined}
+use Rattle.rules.proofs.Chains.{all_numbers}
 use Rattle.rules.proofs.Rules.{rule7_is}
 use Rattle.rules.proofs.rule7.Goals as goal
 
 pub returns : goal.returns
-unfolding test
 returns c =
-    let h = c.args.h.now in
-    c.all.ensures ∙ rule7_is (view h) (view_sized h c.whole.ensures)
+    let s = view c.args.h.now in
+    all_numbers (lined s) lines (cc) c.all.ensures.ran (λ x b q k. search (rules, tests)) ∙ rule7_is s

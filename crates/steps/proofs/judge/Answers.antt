@@ -1,15 +1,11 @@
--- No record, or the record of an action.
+-- The record of an action.
 -- Assumes nothing.
 use Rattle.host.specs.View.{view}
-use Rattle.steps.proofs.Judging.{judged_bad, judged_is}
+use Rattle.steps.proofs.Judging.{judged_is}
 use Rattle.steps.proofs.judge.Goals as goal
 
-pub returns-in-Is : goal.returns-in-Is
-returns-in-Is c =
+pub returns : goal.returns
+returns c =
     let a = c.args in
-    judged_is (view a.h.now) _ a.bytes.now c.decode-d.result c.decode-d.ensures c.in-Is.x c.in-Is.is c.act.result c.act.ensures
-
-pub returns-in-Bad : goal.returns-in-Bad
-returns-in-Bad c =
-    let a = c.args in
-    judged_bad (view a.h.now) (view a.h.now) a.bytes.now c.decode-d.result c.decode-d.ensures c.in-Bad.is
+    judged_is (view a.h.now) _ a.bytes.now c.decode.result c.decode.ensures c.in_ok-x.x c.in_ok-x.ensures.ok_part c.act.result
+    c.act.ensures.answer c.act.ensures.state

@@ -26,4 +26,4 @@ pub returns : goal.returns
 returns c =
     let s = c.args.h.now in
     let e : c.loop-i.i ≡ slots = omega arith in
-    rw e at c.loop-i.invariant.1 ∙ emptied_all (view s) (view_sized s c.whole.ensures)
+    rw e at c.loop-i.invariant.1 ∙ emptied_all (view s) (view_sized s (record { long = c.told-h; small = c.fits-h }))

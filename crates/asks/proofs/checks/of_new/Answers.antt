@@ -1,34 +1,46 @@
 -- The address, then the page, or that there is none.
 -- Assumes nothing.
-use mathlib.Core.Path.{sym, ◌∙◌}
-use borrow.Author.Tests.{eq-eqb}
-use Rattle.model.specs.Sizes.{stealth}
+use Rattle.std.proofs.Common.{rules, tests}
 use Rattle.model.specs.State.{here}
 use Rattle.model.specs.Checks.{asked}
+use Rattle.numbers.specs.declared.refusal.Refusal.TheVariants.{NoPage}
 use Rattle.host.specs.View.{view}
-use Rattle.asks.proofs.Own.{new_there, new_nowhere}
+use Rattle.model.specs.Sizes.{stealth}
+use Rattle.asks.specs.Maps.{only_at}
+use Rattle.asks.proofs.Maps.{maps_page_law}
+use Rattle.asks.proofs.Pages.{found, missing}
 use Rattle.asks.proofs.checks.of_new.Goals as goal
 
-pub returns-then-reserved : goal.returns-then-reserved
+pub returns-in_err-p : goal.returns-in_err-p
 unfolding asked
-returns-then-reserved c = rw (sym c.reserved.ensures ∙ c.if-reserved.true)
-
-pub returns-then-a-eq-STEALTH : goal.returns-then-a-eq-STEALTH
-unfolding asked
-returns-then-a-eq-STEALTH c =
-    rw (sym c.reserved.ensures ∙ c.if-reserved.false, eq-eqb c.args.a.0 stealth c.if-a-eq-STEALTH.true)
-
-pub returns-in-To : goal.returns-in-To
-unfolding asked
-returns-in-To c =
+returns-in_err-p c =
     let a = c.args in
     let s = (view a.h.now).shape in
-    new_there s (here s a.b.0) c.here-l.ensures c.in-To.is a.a.0 (sym c.reserved.ensures ∙ c.if-reserved.false) c.if-a-eq-STEALTH.false
-    c.of_new_page.ensures
+    let k = missing (here s a.b.0) c.here.ensures NoPage c.ok_or.ensures.value c.in_err-p.was in
+    rw k.0 (search (rules, tests, k.1))
 
-pub returns-in-Nowhere : goal.returns-in-Nowhere
+pub returns-then-kind-ne-KIND_DATA : goal.returns-then-kind-ne-KIND_DATA
 unfolding asked
-returns-in-Nowhere c =
+returns-then-kind-ne-KIND_DATA c =
     let a = c.args in
     let s = (view a.h.now).shape in
-    new_nowhere s (here s a.b.0) c.here-l.ensures c.in-Nowhere.is a.a.0 (sym c.reserved.ensures ∙ c.if-reserved.false) c.if-a-eq-STEALTH.false
+    let k = found (here s a.b.0) c.here.ensures NoPage c.ok_or.ensures.value c.in_ok-p.was in
+    rw (k.1, k.0) (search (rules, tests))
+
+pub returns-then-maps_at : goal.returns-then-maps_at
+unfolding asked
+returns-then-maps_at c =
+    let a = c.args in
+    let s = (view a.h.now).shape in
+    let k = found (here s a.b.0) c.here.ensures NoPage c.ok_or.ensures.value c.in_ok-p.was in
+    let e = maps_page_law s (only_at stealth) c.in_ok-p.p.0 k.2 in
+    rw (k.1, k.0) (search (rules, tests, e))
+
+pub returns : goal.returns
+unfolding asked
+returns c =
+    let a = c.args in
+    let s = (view a.h.now).shape in
+    let k = found (here s a.b.0) c.here.ensures NoPage c.ok_or.ensures.value c.in_ok-p.was in
+    let e = maps_page_law s (only_at stealth) c.in_ok-p.p.0 k.2 in
+    rw (k.1, k.0) (search (rules, tests, e))

@@ -1,21 +1,55 @@
--- The page at the address, or that there is none.
+-- The page, or that there is none; then whether the stealth address is taken.
 -- Assumes nothing.
+use Rattle.std.proofs.Common.{rules, tests}
 use Rattle.model.specs.State.{here}
 use Rattle.model.specs.Checks.{asked}
+use Rattle.numbers.specs.declared.refusal.Refusal.TheVariants.{NoPage}
 use Rattle.host.specs.View.{view}
-use Rattle.asks.proofs.Own.{new_sm_there, new_sm_nowhere}
+use Rattle.model.specs.Sizes.{stealth}
+use Rattle.asks.specs.Maps.{but_at}
+use Rattle.asks.proofs.Maps.{maps_page_law}
+use Rattle.asks.proofs.Pages.{found, missing}
 use Rattle.asks.proofs.checks.of_new_sm.Goals as goal
 
-pub returns-in-To : goal.returns-in-To
+pub returns-in_err-p : goal.returns-in_err-p
 unfolding asked
-returns-in-To c =
+returns-in_err-p c =
     let a = c.args in
     let s = (view a.h.now).shape in
-    new_sm_there s (here s a.b.0) c.here-l.ensures c.in-To.is c.of_new_sm_page.ensures
+    let k = missing (here s a.b.0) c.here.ensures NoPage c.ok_or.ensures.value c.in_err-p.was in
+    rw k.0 (search (rules, tests, k.1))
 
-pub returns-in-Nowhere : goal.returns-in-Nowhere
+pub returns-then-kind-ne-KIND_DATA : goal.returns-then-kind-ne-KIND_DATA
 unfolding asked
-returns-in-Nowhere c =
+returns-then-kind-ne-KIND_DATA c =
     let a = c.args in
     let s = (view a.h.now).shape in
-    new_sm_nowhere s (here s a.b.0) c.here-l.ensures c.in-Nowhere.is
+    let k = found (here s a.b.0) c.here.ensures NoPage c.ok_or.ensures.value c.in_ok-p.was in
+    rw (k.1, k.0) (search (rules, tests))
+
+pub returns-then-cacheable-ne-CACHEABLE : goal.returns-then-cacheable-ne-CACHEABLE
+unfolding asked
+returns-then-cacheable-ne-CACHEABLE c =
+    let a = c.args in
+    let s = (view a.h.now).shape in
+    let k = found (here s a.b.0) c.here.ensures NoPage c.ok_or.ensures.value c.in_ok-p.was in
+    let e = maps_page_law s (but_at stealth) c.in_ok-p.p.0 k.2 in
+    rw (k.1, k.0) (search (rules, tests, e))
+
+pub returns-then-is_some : goal.returns-then-is_some
+unfolding asked
+returns-then-is_some c =
+    let a = c.args in
+    let s = (view a.h.now).shape in
+    let k = found (here s a.b.0) c.here.ensures NoPage c.ok_or.ensures.value c.in_ok-p.was in
+    let e = maps_page_law s (but_at stealth) c.in_ok-p.p.0 k.2 in
+    rw (k.1, k.0) (search (rules, tests, e))
+
+pub returns : goal.returns
+unfolding asked
+returns c =
+    let a = c.args in
+    let s = (view a.h.now).shape in
+    let k = found (here s a.b.0) c.here.ensures NoPage c.ok_or.ensures.value c.in_ok-p.was in
+    let e = maps_page_law s (but_at stealth) c.in_ok-p.p.0 k.2 in
+    rw (k.1, k.0) (search (rules, tests, e))

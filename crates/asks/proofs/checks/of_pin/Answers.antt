@@ -1,30 +1,32 @@
 -- Whether the address has a page, then whether there is a free one.
 -- Assumes nothing.
-use mathlib.Core.Path.{sym, ◌∙◌}
+use Rattle.std.proofs.Common.{rules, tests, sym}
 use Rattle.model.specs.State.{here}
 use Rattle.model.specs.Checks.{asked, lowest_free}
 use Rattle.host.specs.View.{view}
-use Rattle.asks.proofs.Own.{is_page_law}
+use Rattle.asks.proofs.Pages.{is_page_law}
 use Rattle.asks.proofs.checks.of_pin.Goals as goal
 
-pub returns-then-is_to : goal.returns-then-is_to
+pub returns-then-is_some : goal.returns-then-is_some
 unfolding asked
-returns-then-is_to c =
+returns-then-is_some c =
     let a = c.args in
-    rw (sym (is_page_law (here (view a.h.now).shape a.b.0) c.here.ensures c.is_to.ensures) ∙ c.if-is_to.true)
+    rw (is_page_law (here (view a.h.now).shape a.b.0) c.here.ensures (sym c.is_some.ensures)) (search (rules, tests))
 
-pub returns-then-is_to-2 : goal.returns-then-is_to-2
+pub returns-then-is_none : goal.returns-then-is_none
 unfolding asked
-returns-then-is_to-2 c =
+returns-then-is_none c =
     let a = c.args in
     let s = (view a.h.now).shape in
     rw
-    (sym (is_page_law (here s a.b.0) c.here.ensures c.is_to.ensures) ∙ c.if-is_to.false, sym (is_page_law (lowest_free s.pages.free) c.lowest_free.ensures c.is_to-2.ensures) ∙ c.if-is_to-2.true)
+    (is_page_law (here s a.b.0) c.here.ensures (sym c.is_some.ensures), is_page_law (lowest_free s.pages.free) c.lowest_free.ensures c.is_none.ensures)
+    (search (rules, tests))
 
-pub returns-else-is_to-2 : goal.returns-else-is_to-2
+pub returns : goal.returns
 unfolding asked
-returns-else-is_to-2 c =
+returns c =
     let a = c.args in
     let s = (view a.h.now).shape in
     rw
-    (sym (is_page_law (here s a.b.0) c.here.ensures c.is_to.ensures) ∙ c.if-is_to.false, sym (is_page_law (lowest_free s.pages.free) c.lowest_free.ensures c.is_to-2.ensures) ∙ c.if-is_to-2.false)
+    (is_page_law (here s a.b.0) c.here.ensures (sym c.is_some.ensures), is_page_law (lowest_free s.pages.free) c.lowest_free.ensures c.is_none.ensures)
+    (search (rules, tests))

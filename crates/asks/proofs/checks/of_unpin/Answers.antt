@@ -1,21 +1,38 @@
--- The page at the address, or that there is none.
+-- The page, or that there is none; then the current table, its entries, and who maps it.
 -- Assumes nothing.
+use Rattle.std.proofs.Common.{rules, tests}
 use Rattle.model.specs.State.{here}
 use Rattle.model.specs.Checks.{asked}
+use Rattle.numbers.specs.declared.refusal.Refusal.TheVariants.{NoPage}
 use Rattle.host.specs.View.{view}
-use Rattle.asks.proofs.Own.{unpin_there, unpin_nowhere}
+use mathlib.Core.Bool.{true}
+use Prim.Native.Nat.{ℕ}
+use Rattle.asks.proofs.Maps.{maps_page_law}
+use Rattle.asks.proofs.Pages.{found, missing}
 use Rattle.asks.proofs.checks.of_unpin.Goals as goal
 
-pub returns-in-To : goal.returns-in-To
+pub returns-in_err-p : goal.returns-in_err-p
 unfolding asked
-returns-in-To c =
+returns-in_err-p c =
     let a = c.args in
     let s = (view a.h.now).shape in
-    unpin_there s (here s a.b.0) c.here-l.ensures c.in-To.is a.b.0 c.of_unpin_page.ensures
+    let k = missing (here s a.b.0) c.here.ensures NoPage c.ok_or.ensures.value c.in_err-p.was in
+    rw k.0 (search (rules, tests, k.1))
 
-pub returns-in-Nowhere : goal.returns-in-Nowhere
+pub returns-then-is_current : goal.returns-then-is_current
 unfolding asked
-returns-in-Nowhere c =
+returns-then-is_current c =
     let a = c.args in
     let s = (view a.h.now).shape in
-    unpin_nowhere s (here s a.b.0) c.here-l.ensures c.in-Nowhere.is a.b.0
+    let k = found (here s a.b.0) c.here.ensures NoPage c.ok_or.ensures.value c.in_ok-p.was in
+    let e = maps_page_law s (λ (v : ℕ). true) c.in_ok-p.p.0 k.2 in
+    rw (k.1, k.0) (search (rules, tests, e))
+
+pub returns : goal.returns
+unfolding asked
+returns c =
+    let a = c.args in
+    let s = (view a.h.now).shape in
+    let k = found (here s a.b.0) c.here.ensures NoPage c.ok_or.ensures.value c.in_ok-p.was in
+    let e = maps_page_law s (λ (v : ℕ). true) c.in_ok-p.p.0 k.2 in
+    rw (k.1, k.0) (search (rules, tests, e))

@@ -1,30 +1,30 @@
 -- A hit leaves keys and history, and a miss is the line that enters.
 -- Assumes nothing.
-use native.Mathlib.Omega.{arith}
-use mathlib.Core.Path.{refl}
+use mathlib.Core.Path.{refl, ap, ◌∙◌}
+use Rattle.numbers.specs.declared.Ma.{Ma}
+use Rattle.model.specs.Sizes.{ways}
 use Rattle.host.specs.View.{view}
 use Rattle.host.proofs.Inverse.{view_sized}
-use Rattle.cache.proofs.Accesses.{access_hits}
+use Rattle.cache.specs.Sets.{if_below, way_in, find_in}
+use Rattle.cache.proofs.Found.{below_some}
+use Rattle.cache.proofs.Accesses.{kept, access_hits}
 use Rattle.cache.proofs.lines.access_set.Goals as goal
 
-pub miss-requires : goal.miss-requires
-miss-requires c =
-    (refl, c.requires, c.load-s.ensures, omega (arith, c.if-w-lt-WAYS.false, c.find-w.ensures))
-
-pub returns-then-w-lt-WAYS : goal.returns-then-w-lt-WAYS
-returns-then-w-lt-WAYS c =
-    access_hits (view c.args.h.now) c.args.a.0 c.args.p.0 (view_sized c.args.h.now c.whole.ensures) c.requires c.load-s.result c.load-s.ensures
-    c.find-w.result
-    c.find-w.ensures
-    c.if-w-lt-WAYS.true
-    c.args.x
-    c.way-old.result
-    c.kept.result
+pub returns-in-Some : goal.returns-in-Some
+returns-in-Some c =
+    let a = c.args in
+    let s = c.load-s.result in
+    let w = c.in-Some.w in
+    let d = below_some ways (find_in s a.a.0 a.p.0) w (c.in-Some.ensures ∙ ap (λ (p : Ma). if_below ways (find_in s a.a.0 p.0)) c.p.view_is) in
+    access_hits (view a.h.now) a.a.0 a.p.0 (view_sized a.h.now (record { long = c.told-h; small = c.fits-h })) c.requires s c.load-s.ensures w d.0 d.1
+    a.written
+    (way_in s w)
+    c.unwrap_or.result
     c.replaced.result
-    c.used-t.result
+    c.used.result
     _
-    c.way-old.ensures
-    c.kept.ensures
+    refl
+    (c.unwrap_or.ensures ∙ kept a.written (way_in s w).value)
     c.replaced.ensures
-    c.used-t.ensures
+    c.used.ensures
     c.put_back.ensures

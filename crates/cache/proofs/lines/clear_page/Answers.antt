@@ -11,7 +11,7 @@ use Rattle.cache.proofs.lines.clear_page.Goals as goal
 pub loop-i-init : goal.loop-i-init
 loop-i-init c =
     let a = c.args in
-    (omega arith, cleared_none (view a.h.now) a.p.0 (view_sized a.h.now c.whole.ensures))
+    (omega arith, cleared_none (view a.h.now) a.p.0 (view_sized a.h.now (record { long = c.told-h; small = c.fits-h })))
 
 pub loop-i-preserved : goal.loop-i-preserved
 loop-i-preserved c =

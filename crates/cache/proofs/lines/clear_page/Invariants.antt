@@ -1,6 +1,6 @@
 -- One line more each turn.
 use mathlib.Core.Path.{◌≡◌}
-use Prim.Native.Nat.{◌≤◌, ◌-◌}
+use Prim.Native.Nat.{◌≤◌}
 use Rattle.model.specs.Sizes.{lines}
 use Rattle.host.specs.View.{view}
 use Rattle.cache.specs.Lines.{cleared_below}
@@ -8,6 +8,3 @@ use Rattle.cache.proofs.lines.clear_page.Given as goal
 
 abbrev pub invariant-loop-i : goal.invariant-loop-i
 invariant-loop-i l = (l.i ≤ lines) × (view l.h ≡ cleared_below l.i (view l.initial.h) l.p.0)
-
-abbrev pub decreases-loop-i : goal.decreases-loop-i
-decreases-loop-i l = lines - l.i

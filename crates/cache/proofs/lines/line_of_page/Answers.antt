@@ -1,30 +1,20 @@
--- The first line that is of the page: none before it was.
+-- The first line that is of the page.
 -- Assumes nothing.
-use mathlib.Core.Path.{sym, ◌∙◌}
-use native.Mathlib.Omega.{arith}
-use borrow.Author.Count.{below_more}
-use Rattle.laws.proofs.Search.{first_below_is, first_below_none}
+use Rattle.std.proofs.Common.{rules, tests, arith, ℕ, sym, ◌∙◌}
+use Rattle.std.proofs.lemmas.Iterator.Adapters.{option_map_id}
+use Rattle.std.proofs.lemmas.Iterator.{YieldsList-from_range}
+use Rattle.std.proofs.lemmas.Iterator.Search.{find_from_yields_List}
 use Rattle.model.specs.Sizes.{lines}
 use Rattle.model.specs.State.{line_of_page}
 use Rattle.host.specs.View.{view}
 use Rattle.cache.specs.Lines.{is_of}
+use Rattle.cache.proofs.Found.{find_below}
 use Rattle.cache.proofs.lines.line_of_page.Goals as goal
-
-pub loop-i-init : goal.loop-i-init
-loop-i-init c = (omega arith, λ j h. absurd (omega arith))
-
-pub returns-then-is_of : goal.returns-then-is_of
-unfolding line_of_page
-returns-then-is_of c =
-    let a = c.args in
-    sym (first_below_is (is_of (view a.h.now).shape a.p.0) lines c.loop-i.i (omega arith) (sym c.is_of.ensures ∙ c.if-is_of.true) c.loop-i.invariant.1)
-
-pub loop-i-preserved : goal.loop-i-preserved
-loop-i-preserved c =
-    (omega arith, below_more _ _ c.loop-i.invariant.1 (sym c.is_of.ensures ∙ c.if-is_of.false))
 
 pub returns : goal.returns
 unfolding line_of_page
 returns c =
     let a = c.args in
-    sym (first_below_none (is_of (view a.h.now).shape a.p.0) lines (λ j h. c.loop-i.invariant.1 j (omega arith)))
+    let f = λ (i : ℕ). is_of (view a.h.now).shape a.p.0 i in
+    sym (option_map_id c.find.result) ∙ find_from_yields_List f _ _ c.find.result c.find.ensures.ran (YieldsList-from_range 0 lines lines (cc) (omega arith)) (λ x b q k. search (rules, tests))
+    ∙ find_below f lines

@@ -7,4 +7,4 @@ use Rattle.cache.proofs.lines.replace_line.Goals as goal
 pub returns : goal.returns
 returns c =
     let a = c.args in
-    line_replaced (view a.h.now) a.i a.l c.load-s.result c.replaced-t.result _ c.load-s.ensures c.replaced-t.ensures c.put_back.ensures
+    line_replaced (view a.h.now) a.i a.l c.load-s.result c.replaced.result _ c.load-s.ensures c.replaced.ensures c.put_back.ensures

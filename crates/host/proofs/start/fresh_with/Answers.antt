@@ -5,4 +5,4 @@ use Rattle.host.proofs.start.fresh_with.Goals as goal
 
 pub returns : goal.returns
 returns c =
-    fresh_stored _ _ c.policy_number.result _ c.fresh.ensures c.policy_number.ensures c.set_policy.ensures
+    fresh_stored _ _ c.from.result _ c.fresh.ensures c.from.ensures c.set_policy.ensures

@@ -7,18 +7,20 @@ use Rattle.host.proofs.values.get_value.Goals as goal
 
 pub overflow_mul-i : goal.overflow_mul-i
 overflow_mul-i c =
-    record { fits = omega (arith, word_ends c.args.k c.args.i c.requires c.if-i-size.true) }
+    record { fits = let e = c.extent-start.ensures in omega (arith, word_ends c.args.k c.args.i (rw e at c.if-i-size.true)) }
 
 pub overflow_add-start : goal.overflow_add-start
 overflow_add-start c =
-    record { fits = omega (arith, word_ends c.args.k c.args.i c.requires c.if-i-size.true) }
+    let e = c.extent-start.ensures in
+    record { fits = rw e (let w = word_ends c.args.k c.args.i (rw e at c.if-i-size.true) in omega (arith, w)) }
 
 pub word-requires : goal.word-requires
-word-requires c = let s = c in word_ends s.args.k s.args.i s.requires c.if-i-size.true
+word-requires c = let e = c.extent-start.ensures in rw e (word_ends c.args.k c.args.i (rw e at c.if-i-size.true))
 
 pub returns-then-i-size : goal.returns-then-i-size
 returns-then-i-size c =
-    c.word.ensures ∙ word_get c.args.k c.args.i c.args.h.now c.requires c.if-i-size.true
+    let e = c.extent-start.ensures in
+    c.word.ensures ∙ rw e (word_get c.args.k c.args.i c.args.h.now (rw e at c.if-i-size.true))
 
 pub returns-else-i-size : goal.returns-else-i-size
-returns-else-i-size c = let s = c in word_out s.args.k s.args.i s.args.h.now s.requires c.if-i-size.false
+returns-else-i-size c = let e = c.extent-start.ensures in word_out c.args.k c.args.i c.args.h.now (rw e at c.if-i-size.false)

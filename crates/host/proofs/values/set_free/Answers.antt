@@ -1,5 +1,6 @@
 -- Two numbers of four bytes stored are the map.
 -- Assumes nothing.
+use Rattle.std.proofs.Common.{rules}
 use mathlib.Core.Path.{ap, ◌∙◌}
 use mathlib.Core.List.{List}
 use Prim.Native.Nat.{ℕ, ◌+◌, ◌/◌, ◌^◌}
@@ -12,4 +13,4 @@ use Rattle.host.proofs.values.set_free.Goals as goal
 
 pub returns : goal.returns
 returns c =
-    ap view (c.set_word-2.ensures ∙ ap (λ (x : List ℕ). set_word x (begin sizes free_field + 4) (c.args.v / byte_bound ^ 4)) c.set_word.ensures) ∙ free_put c.args.h.now c.args.v c.whole.ensures.long
+    ap view (c.set_word-2.ensures ∙ ap (λ (x : List ℕ). set_word x (begin sizes free_field + 4) (c.args.v / byte_bound ^ 4)) c.set_word.ensures) ∙ free_put c.args.h.now c.args.v (search rules)

@@ -2,15 +2,24 @@
 -- Assumes nothing.
 use Rattle.std.proofs.Common.{refl, rules}
 use Rattle.host.specs.View.{view}
-use Rattle.output.proofs.Streaming.{room_for_lines, streams}
+use Rattle.steps.proofs.Refusals.{some_number}
+use Rattle.print.specs.Pages.{typed_all_on}
+use Rattle.output.proofs.Streaming.{room_for_lines, streams_ran, streams_refused}
 use Rattle.output.proofs.stream.feed.Goals as goal
 
-pub lines_of_call-requires : goal.lines_of_call-requires
-lines_of_call-requires c =
+pub first_answers-ran-requires : goal.first_answers-ran-requires
+first_answers-ran-requires c =
     let a = c.args in
-    (search rules, room_for_lines (view a.h.now) a.k.now a.piece.now a.last a.answers.now c.feed-fed.ensures)
+    room_for_lines (view a.h.now) a.k.now a.piece.now a.last a.answers.now c.in-Ok.ensures
 
-pub returns : goal.returns
-returns c =
+pub returns-in-Ok : goal.returns-in-Ok
+unfolding typed_all_on
+returns-in-Ok c =
     let a = c.args in
-    streams (view a.h.now) a.k.now a.piece.now a.last a.answers.now a.told a.out.now c.feed-fed.ensures c.is_short-short.ensures refl c.lines_of_call.ensures
+    streams_ran (view a.h.now) a.k.now a.piece.now a.last a.answers.now a.told a.out.now c.in-Ok.ensures refl c.is_short-short.ensures c.first_answers-ran.ensures (search rules) c.ran_lines-told.ensures.told
+
+pub returns-in-Err : goal.returns-in-Err
+unfolding typed_all_on
+returns-in-Err c =
+    let a = c.args in
+    streams_refused (view a.h.now) a.k.now a.piece.now a.last a.answers.now a.told a.out.now c.in-Err.ensures (some_number c.in-Err.refusal) (search rules) c.turned_away-status.ensures.status

@@ -1,7 +1,8 @@
 -- What was printed lies in the output's buffer; and a call that is not refused takes some of a piece, since its answers have room for a record.
 -- Assumes nothing.
-use native.Mathlib.Omega.{arith}
+use Rattle.std.proofs.Common.{ap, arith}
 use Rattle.io.proofs.Counting.{length-take_of_le}
+use Rattle.print.specs.Status.{digit_of}
 use Rattle.output.proofs.Streaming.{streamed_inside, taken_inside, taken_some}
 use Rattle.rpj.proofs.stream.call.Goals as goal
 
@@ -14,5 +15,5 @@ slice_bounds-put-end c = length-take_of_le c.feed-s.result.bytes c.feed-s.new.ou
 pub returns : goal.returns
 returns c = (
   taken_inside _ _ _ _ _ c.feed-s.ensures,
-  λ e h. taken_some _ _ _ _ _ c.feed-s.ensures (c.put-status.ensures e) (omega arith) h,
+  λ h. taken_some _ _ _ _ _ c.feed-s.ensures (ap digit_of (c.in_ok-put.ensures)) (omega arith) h,
 )

@@ -1,0 +1,11 @@
+-- The empty slots.
+use mathlib.Core.Path.{◌≡◌}
+use mathlib.Core.List.{[], ◌∷◌}
+use Prim.Native.Nat.{◌+◌}
+use Rattle.model.specs.Broken.{broken_from, part10_slots}
+use Rattle.host.specs.View.{view}
+use Rattle.broken.specs.Findings.{finding_of, field_parts}
+use Rattle.broken.proofs.fn.in_tenth.or_else+3.Given as goal
+
+abbrev pub ensures : goal.ensures
+ensures l r = finding_of r ≡ broken_from (field_parts + 2) (part10_slots (view l.h.entry.now) ∷ [])

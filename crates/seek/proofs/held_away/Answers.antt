@@ -1,0 +1,14 @@
+-- The chain asks each address.
+-- Assumes nothing.
+use Rattle.std.proofs.Common.{rules, tests}
+use Rattle.host.specs.View.{view}
+use Rattle.model.specs.Sizes.{physicals}
+use Rattle.seek.specs.Leads.{held_away}
+use Rattle.seek.proofs.Chains.{any_over}
+use Rattle.seek.proofs.held_away.Goals as goal
+
+pub returns : goal.returns
+unfolding held_away
+returns c =
+    let a = c.args in
+    any_over (held_away (view a.h.now) a.g.0 a.a.0 a.p.0) physicals _ _ _ c.any.ensures.ran (λ i b q k. search (rules, tests))
