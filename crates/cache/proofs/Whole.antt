@@ -7,7 +7,7 @@ use Prim.Native.Nat.{ℕ, zero, suc, ◌+◌, ◌/◌, ◌%◌, ◌≤◌, ◌<�
 use native.Mathlib.Omega.{arith}
 use native.Mathlib.Numerals.{add-one}
 use lib.Dec.{ltb}
-use lib.ListN.{set}
+use lib.ListN.{set, length}
 use lib.Seq.{set_out, set-get_or, get_or-set_same, get_or-set_other}
 use borrow.Author.Tests.{lt-ltb, le-ltb}
 use Rattle.laws.specs.Choice.{pick, at}
@@ -161,10 +161,10 @@ pub saved_to : (s : State) (e p v : ℕ) → lead_of e ≡ Some (ma p) → put_m
 saved_to s e p v q = ap (λ (n : ℕ). put_memory s n v) (sym (ap place_of q) ∙ place_lead e)
 
 -- nowhere is past the end of memory
-pub saved_nowhere : (s : State) (e v : ℕ) → Sized s → lead_of e ≡ None → s ≡ put_memory s (lead e) v
+pub saved_nowhere : (s : State) (e v : ℕ) → length s.values.memory ≡ pages → lead_of e ≡ None → s ≡ put_memory s (lead e) v
 unfolding put_memory
-saved_nowhere s e v z q =
-    let m = set_out s.values.memory nowhere v (omega (arith, z.memory)) in
+saved_nowhere s e v l q =
+    let m = set_out s.values.memory nowhere v (omega arith) in
     (λ j. record { shape = s.shape; values = record { memory = sym m j; line = s.values.line } })
     ∙ ap (λ (n : ℕ). put_memory s n v) (sym (ap place_of q) ∙ place_lead e)
 

@@ -6,8 +6,9 @@ use Prim.Native.Nat.{ℕ, ◌+◌, ◌-◌, ◌≤◌}
 use native.Mathlib.Omega.{arith}
 use borrow.Rule.Slice.PartMut.{put_mid, mid_of}
 use lib.ListN.{length, take, drop, set, replicate, length-append, length-take, length-drop, drop_of_length-le}
-use lib.Seq.{take_all, take-length, length-take-le, take-append_seam, drop-append_seam}
-use Rattle.std.proofs.lemmas.Slice.{take-put_mid}
+use lib.Seq.{take_all, take-length, take_at, length-take-le, take-append_seam, drop-append_seam, drop-append-add, drop-drop}
+use Rattle.std.proofs.lemmas.List.{take-append-drop, drop-replicate}
+use Rattle.std.proofs.lemmas.Slice.{take-put_mid, drop-put_mid}
 use Rattle.laws.proofs.Cases.{below?}
 use Rattle.model.specs.Sizes.{count_bytes, begun_most, kept_bytes}
 use Rattle.model.specs.Pieces.{begun, begun_count}
@@ -20,14 +21,6 @@ counts_stored : (k : List ℕ) (n m : ℕ) → count_bytes ≤ length k → set 
 counts_stored [] n m h = absurd (omega arith)
 counts_stored (x ∷ []) n m h = absurd (omega arith)
 counts_stored (x ∷ y ∷ k) n m h = refl
-
--- what follows the first bytes is stored, and then what follows that
-parts_stored : (b more z : List ℕ) (stays : ℕ) → stays + length more ≤ length b → {n : ℕ} → n ≡ stays + length more → {inner : List ℕ}
-    → inner ≡ put_mid stays (n - stays) b more → put_mid n (length inner - n) inner z ≡ (take stays b ++ more) ++ z
-parts_stored b more z stays h {n} e {inner} f =
-    let t : take n inner ≡ take stays b ++ more = ap (take n) f ∙ take-put_mid stays (n - stays) b more n e (omega arith) in
-    let d : drop (length inner - n) (drop n inner) ≡ [] = drop_of_length-le (drop n inner) {i = length inner - n} (omega (arith, length-drop n inner)) in
-    (λ i. t i ++ (z ++ d i)) ∙ ap (λ (l : List ℕ). (take stays b ++ more) ++ l) (append-nil z)
 
 -- two parts that follow one another, over other bytes
 pub parts_joined : (g m z : List ℕ) → length g ≤ length z → {x y : List ℕ} → x ≡ g → y ≡ m
@@ -45,46 +38,49 @@ module _ (k : List ℕ) (stays : ℕ) (more : List ℕ) (w : length k ≡ kept_b
   with_length =
       omega (arith, length-append (take stays (drop count_bytes k)) more, length-take-le stays (drop count_bytes k) (omega (arith, length-drop count_bytes k)))
 
-  -- as code stores them, with so many header bytes
-  module _ (n : ℕ) where
+  -- as code puts them together, over zeros
+  module _ {g m b : List ℕ} (eg : g ≡ mid_of count_bytes (count_bytes + stays - count_bytes) k) (em : m ≡ more)
+      (eb : b ≡ put_mid stays (stays + length more - stays) (g ++ drop stays (replicate begun_most 0)) m) where
     abbrev count : ℕ
     count = stays + length more
 
-    abbrev counted : List ℕ
-    counted = set (set k 0 n) 1 count
+    abbrev zeros : List ℕ
+    zeros = replicate begun_most 0
 
-    abbrev bytes : List ℕ
-    bytes = mid_of count_bytes begun_most counted
+    first : g ≡ take stays (drop count_bytes k)
+    first =
+        let e : count_bytes + stays - count_bytes ≡ stays = omega arith in
+        eg ∙ ap (λ (i : ℕ). take i (drop count_bytes k)) e
 
-    bytes_stay : bytes ≡ drop count_bytes k
-    bytes_stay =
-        ap (mid_of count_bytes begun_most) (counts_stored k n count (omega arith)) ∙ take_all begun_most (drop count_bytes k) (omega (arith, length-drop count_bytes k))
+    first_length : length g ≡ stays
+    first_length = ap length first ∙ length-take-le stays (drop count_bytes k) (omega (arith, length-drop count_bytes k))
 
-    abbrev followed : List ℕ → List ℕ
-    followed part = put_mid stays (count - stays) bytes part
+    there : stays ≤ length (g ++ drop stays zeros)
+    there = omega (arith, first_length, length-append g (drop stays zeros))
 
-    followed_length : length (followed more) ≡ begun_most
-    followed_length =
-        let l : length bytes ≡ begun_most = ap length bytes_stay ∙ omega (arith, length-drop count_bytes k) in
-        omega
-        (arith, length-append (take stays bytes) (more ++ drop (count - stays) (drop stays bytes)), length-append more (drop (count - stays) (drop stays bytes)), length-take-le stays bytes (omega arith), length-drop (count - stays) (drop stays bytes), length-drop stays bytes)
+    begins : take count b ≡ begun_with k stays more
+    begins =
+        ap (take count) eb
+        ∙ take-put_mid stays (count - stays) (g ++ drop stays zeros) m count (omega (arith, ap length em)) there
+        ∙ (λ i. take_at g (drop stays zeros) stays first_length i ++ em i)
+        ∙ ap (λ (l : List ℕ). l ++ more) first
 
-    abbrev padded : List ℕ
-    padded = begun_with k stays more ++ replicate (begun_most - count) 0
+    ends : drop count b ≡ replicate (begun_most - count) 0
+    ends =
+        let e : count ≡ length g + length more = omega (arith, first_length) in
+        ap (drop count) eb
+        ∙ drop-put_mid stays (count - stays) (g ++ drop stays zeros) m count (omega arith) there (omega (arith, ap length em))
+        ∙ ap (λ (n : ℕ). drop n (g ++ drop stays zeros)) e
+        ∙ drop-append-add g (drop stays zeros) (length more)
+        ∙ drop-drop (length more) stays zeros
+        ∙ drop-replicate (stays + length more) begun_most 0
 
-    pub hold_law : {part z : List ℕ} → part ≡ more → z ≡ replicate (length (take (length (followed part) - count) (drop count (followed part)))) 0
-        → put_mid count_bytes begun_most counted (put_mid count (length (followed part) - count) (followed part) z) ≡ holds k n stays more
-    hold_law {part} {z} e f =
-        let l : length (followed part) ≡ begun_most = ap (λ (p : List ℕ). length (followed p)) e ∙ followed_length in
-        let m : length (take (length (followed part) - count) (drop count (followed part))) ≡ begun_most - count =
-        omega (arith, length-take (length (followed part) - count) (drop count (followed part)), length-drop count (followed part)) in
+    pub hold_law : (n : ℕ) → put_mid count_bytes begun_most (set (set k 0 n) 1 count) b ≡ holds k n stays more
+    hold_law n =
         let d : drop begun_most (drop count_bytes k) ≡ [] = drop_of_length-le (drop count_bytes k) {i = begun_most} (omega (arith, length-drop count_bytes k)) in
-        let q : put_mid count (length (followed part) - count) (followed part) z ≡ (take stays bytes ++ more) ++ z =
-        parts_stored bytes more z stays (let b = ap length bytes_stay in omega (arith, length-drop count_bytes k)) refl (ap followed e) in
-        let zeros : z ≡ replicate (begun_most - count) 0 = f ∙ ap (λ (j : ℕ). replicate j 0) m in
-        let y : put_mid count (length (followed part) - count) (followed part) z ≡ padded =
-        q ∙ (λ i. (take stays (bytes_stay i) ++ more) ++ zeros i) in
-        let stored : put_mid count_bytes begun_most counted (put_mid count (length (followed part) - count) (followed part) z) ≡ n ∷ count ∷ (padded ++ []) =
+        let y : b ≡ begun_with k stays more ++ replicate (begun_most - count) 0 = sym (take-append-drop count b) ∙ (λ i. begins i ++ ends i) in
+        let padded = begun_with k stays more ++ replicate (begun_most - count) 0 in
+        let stored : put_mid count_bytes begun_most (set (set k 0 n) 1 count) b ≡ n ∷ count ∷ (padded ++ []) =
         (λ i. put_mid count_bytes begun_most (counts_stored k n count (omega arith) i) (y i)) ∙ (λ i. n ∷ count ∷ (padded ++ d i)) in
         stored ∙ (λ i. n ∷ count ∷ append-nil padded i) ∙ (λ i. n ∷ sym with_length i ∷ (begun_with k stays more ++ replicate (begun_most - sym with_length i) 0))
 

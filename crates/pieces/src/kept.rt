@@ -26,11 +26,13 @@ fn hold(k: &mut Kept, header: usize, stays: usize, more: &[u8])
     ensures { k.new ≡ holds k.old header stays more.now }
 {
     let count = stays + more.len();
+    // Put together apart: copied from one lent part to another they would be moved by memmove, which the archive for C asks of nobody.
+    let mut begun = [0u8; BEGUN];
+    begun[..stays].copy_from_slice(&k[COUNTS..COUNTS + stays]);
+    begun[stays..count].copy_from_slice(more);
     k[HEADER_COUNT] = header as u8;
     k[BEGUN_COUNT] = count as u8;
-    let begun = &mut k[COUNTS..];
-    begun[stays..count].copy_from_slice(more);
-    begun[count..].fill(0);
+    k[COUNTS..].copy_from_slice(&begun);
 }
 
 // After n records: what is kept, and how many bytes of the piece are taken.

@@ -2,22 +2,50 @@
 -- Assumes nothing.
 use mathlib.Core.Path.{◌≡◌, refl, sym, ap, ◌∙◌}
 use mathlib.Core.Bool.{Bool}
-use mathlib.Core.List.{List, [], ◌∷◌, ◌++◌}
+use mathlib.Core.List.{List, [], ◌∷◌}
 use Prim.Native.Nat.{ℕ, zero, suc, ◌+◌, ◌*◌, ◌-◌, ◌/◌, ◌%◌, ◌^◌, ◌≤◌, ◌<◌}
 use native.Mathlib.Omega.{arith}
-use native.Mathlib.Nat.{pow-suc, mul_comm, mod-one, mod-eq_of_lt, div-one, div-div-eq-div-mul}
-use Rattle.std.specs.Fmt.{decimal}
-use Rattle.std.proofs.lemmas.Fmt.{decimal_by_steps}
+use native.Mathlib.Nat.{pow-suc, mul_comm, mod-one, mod-eq_of_lt}
 use borrow.Author.Tests.{lt-ltb, le-ltb, ltb-true}
 use lib.Dec.{ltb}
 use lib.ListN.{length}
 use lib.Arith.{mod-mul}
-use Rattle.laws.specs.Search.{first_below}
+use Rattle.laws.specs.Choice.{at}
+use Rattle.laws.specs.Search.{first_from, first_below}
 use Rattle.laws.proofs.Cases.{below?}
-use Rattle.laws.proofs.Search.{first_below_is, first_below_found, first_below_least}
+use Rattle.laws.proofs.Tests.{eq⇔}
+use Rattle.laws.proofs.Search.{all⇔, first_below_is, first_below_found, first_below_least}
 use Rattle.print.specs.Text.{digits, places_of, decimal_of, value_of_digits}
 
 -- ---- powers
+
+abbrev pub powers : List ℕ
+powers =
+    1
+    ∷ 10
+    ∷ 100
+    ∷ 1000
+    ∷ 10000
+    ∷ 100000
+    ∷ 1000000
+    ∷ 10000000
+    ∷ 100000000
+    ∷ 1000000000
+    ∷ 10000000000
+    ∷ 100000000000
+    ∷ 1000000000000
+    ∷ 10000000000000
+    ∷ 100000000000000
+    ∷ 1000000000000000
+    ∷ 10000000000000000
+    ∷ 100000000000000000
+    ∷ 1000000000000000000
+    ∷ 10000000000000000000
+    ∷ []
+
+pub power_at : (i : ℕ) → i < 20 → at powers i ≡ 10 ^ i
+unfolding first_from
+power_at i h = (all⇔ 20 (λ k l. eq⇔ (at powers k) (10 ^ k))).0 refl i h
 
 pub power_more : (k : ℕ) → k < 10 ^ k
 power_more zero = omega arith
@@ -39,52 +67,11 @@ module _ (n k : ℕ) (before : (j : ℕ) → suc j < suc k → 10 ^ suc j ≤ n)
   places_are =
       ap suc (sym (first_below_is (λ i. ltb n (10 ^ suc i)) (suc n) k (omega (arith, low)) (lt-ltb n (10 ^ suc k) holds) (λ j h. le-ltb n (10 ^ suc j) (before j (omega arith)))))
 
+pub fewest : (n k : ℕ) → 0 < k → ((j : ℕ) → suc j < k → 10 ^ suc j ≤ n) → n < 10 ^ k → k ≡ places_of n
+fewest n zero z b h = absurd (omega arith)
+fewest n (suc k) z b h = places_are n k b h
+
 -- ---- digits
-
--- the last digit stands behind those of a tenth
-digits_last : (k n : ℕ) → digits (suc k) n ≡ digits k (n / 10) ++ (48 + n % 10) ∷ []
-unfolding digits
-digits_last zero n = ap (λ (q : ℕ). (48 + q % 10) ∷ []) (div-one n)
-digits_last (suc k) n = λ i. (48 + tenth i % 10) ∷ digits_last k n i
-  where
-    tenth : n / 10 ^ suc k ≡ n / 10 / 10 ^ k
-    tenth = ap (λ (q : ℕ). n / q) (pow-suc 10 k ∙ mul_comm (10 ^ k) 10) ∙ sym (div-div-eq-div-mul n 10 (10 ^ k))
-
--- d are the fewest digits that hold n
-record Written (n : ℕ) (d : List ℕ) : Type 0 where
-  more : ℕ
-  digits_are : d ≡ digits (suc more) n
-  before : (j : ℕ) → suc j < suc more → 10 ^ suc j ≤ n
-  holds : n < 10 ^ suc more
-
-written : (n : ℕ) → n < 2 ^ 64 → Written n (decimal n)
-unfolding digits
-written = decimal_by_steps Written one next
-  where
-    one : (n : ℕ) → n < 10 → Written n ((48 + n) ∷ [])
-    one n h = record { more = 0; digits_are = λ i. (48 + same i) ∷ []; before = λ j l. absurd (omega arith); holds = h }
-      where
-        same : n ≡ n / 10 ^ 0 % 10
-        same = sym (ap (λ (q : ℕ). q % 10) (div-one n) ∙ mod-eq_of_lt h)
-
-    next : (n : ℕ) (d : List ℕ) → 10 ≤ n → Written (n / 10) d → Written n (d ++ (48 + n % 10) ∷ [])
-    next n d h w =
-        record {
-          more = suc w.more;
-          digits_are = ap (λ (l : List ℕ). l ++ (48 + n % 10) ∷ []) w.digits_are ∙ sym (digits_last (suc w.more) n);
-          before = low;
-          holds = omega (arith, w.holds, pow-suc 10 (suc w.more));
-        }
-      where
-        low : (j : ℕ) → suc j < suc (suc w.more) → 10 ^ suc j ≤ n
-        low zero l = h
-        low (suc j) l = omega (arith, w.before j (omega arith), pow-suc 10 (suc j))
-
--- the library's digits are those of Text.antt
-pub decimal_is : (n : ℕ) → n < 2 ^ 64 → decimal n ≡ decimal_of n
-decimal_is n h =
-    let w = written n h in
-    w.digits_are ∙ ap (λ (k : ℕ). digits k n) (places_are n w.more w.before w.holds)
 
 length_digits : (k n : ℕ) → length (digits k n) ≡ k
 unfolding digits

@@ -9,6 +9,10 @@ use Rattle.print.specs.Text as text
 abbrev pub blank : MutBor (List ℕ) → Page
 blank o = record { out = o; place = 0 }
 
+-- the lent buffer, with the next byte to go to a place
+abbrev pub begun : MutBor (List ℕ) → ℕ → Page
+begun o i = record { out = o; place = i }
+
 -- what is on a page
 abbrev pub seen : Page → text.Page
 seen p = text.page p.out.now p.place

@@ -1,4 +1,4 @@
-// Text typed into a lent buffer, from its start on: a byte, a text, a number in decimal. What has no room is left out.
+// Text typed into a lent buffer, from its start or from any place on: a byte, a text, a number in decimal. What has no room is left out.
 //
 //     let mut page = Page::new(out);
 //     page.text("refused ");
@@ -13,11 +13,65 @@
 
 mod status; // status.rt: with which status a program ends that prints a page
 
-ghost use Rattle.std.specs.Prelude.{◌≡◌};
-ghost use Rattle.print.specs.Text.{decimal_of};
-ghost use Rattle.print.specs.Pages.{blank, typed_on, typed_all_on};
+ghost use Rattle.std.specs.Prelude.{◌≡◌, ◌^◌, ◌<◌};
+ghost use Rattle.print.specs.Text.{digit, places_of, decimal_of};
+ghost use Rattle.print.specs.Pages.{blank, begun, typed_on, typed_all_on};
 
 pub use status::{Printed, Status};
+
+// ---- the digits of a number
+
+// A number of 64 bits has so many at most.
+const PLACES: usize = 20;
+
+const POWERS: [u64; PLACES] = [
+    1,
+    10,
+    100,
+    1000,
+    10000,
+    100000,
+    1000000,
+    10000000,
+    100000000,
+    1000000000,
+    10000000000,
+    100000000000,
+    1000000000000,
+    10000000000000,
+    100000000000000,
+    1000000000000000,
+    10000000000000000,
+    100000000000000000,
+    1000000000000000000,
+    10000000000000000000,
+];
+
+fn power(i: usize) -> u64
+    requires { i < 20 }
+    ensures { result ≡ 10 ^ i }
+{
+    POWERS[i]
+}
+
+fn digit_at(n: u64, i: usize) -> u8
+    requires { i < 20 }
+    ensures { result ≡ digit n i }
+{
+    b'0' + (n / power(i) % 10) as u8
+}
+
+fn places(n: u64) -> usize
+    ensures { (result ≡ places_of n) × (result < 21) }
+{
+    let mut k = 1;
+    while k < PLACES && power(k) <= n {
+        k += 1;
+    }
+    k
+}
+
+// ---- a page
 
 // The lent buffer, and the place where the next byte goes. No `fmt::Write`: `write!` answers a Result, and what could not fail still cannot.
 #[derive(Drop)]
@@ -30,10 +84,17 @@ impl<'a> Page<'a> {
     pub fn new(out: &'a mut [u8]) -> Page<'a>
         ensures { result ≡ blank out.entry }
     {
-        Page { out, place: 0 }
+        Page::at(out, 0)
     }
 
-    // So many bytes are typed.
+    // The next byte goes to this place, whatever it is: past the buffer's end nothing has room.
+    pub fn at(out: &'a mut [u8], place: usize) -> Page<'a>
+        ensures { result ≡ begun out.entry place }
+    {
+        Page { out, place }
+    }
+
+    // Where the next byte goes: on a new page, how many bytes are typed.
     pub fn place(&self) -> usize
         ensures { result ≡ self.now.place }
     {
@@ -68,6 +129,8 @@ impl<'a> Page<'a> {
     pub fn number(&mut self, n: u64)
         ensures { self.new ≡ typed_all_on self.old (decimal_of n) }
     {
-        self.text(itoa::Buffer::new().format(n));
+        for i in (0..places(n)).rev() {
+            self.byte(digit_at(n, i));
+        }
     }
 }

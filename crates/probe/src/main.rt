@@ -194,14 +194,17 @@ fn judge(length: u16) {
     send(&h);
 }
 
-// A machine and an image; then the number of what `read` answers, and the machine after it.
-fn read_image<Read: Fn(&mut Host, &[u8]) -> Result<(), Refusal>>(read: Read, length: u16)
-    requires { Read.IsAlwaysCallable read }
-{
+// A machine and an image; then the number of what loading or opening it answers, and the machine after it. No closure, which would ask to be callable.
+fn read_image(loads: bool, length: u16) {
     let mut h = receive_host();
     let mut image: Buffer = [0; MOST];
     let image = receive(&mut image, length);
-    send(&[code_of(read(&mut h, image))]);
+    let read = if loads {
+        image::load(&mut h, image)
+    } else {
+        image::open(&mut h, image)
+    };
+    send(&[code_of(read)]);
     send(&h);
 }
 
@@ -242,8 +245,8 @@ fn perform(kind: Kind, second: u8, length: u16, room: u16) {
         Kind::Fresh => run_journal(&mut fresh(second), length, room),
         Kind::Given => run_journal(&mut receive_host(), length, room),
         Kind::Judge => judge(length),
-        Kind::Open => read_image(image::open, length),
-        Kind::Load => read_image(image::load, length),
+        Kind::Open => read_image(false, length),
+        Kind::Load => read_image(true, length),
         Kind::Save => save_image(room),
         Kind::Feed => feed(second == LAST, length, room),
         Kind::Begin => begin(),

@@ -122,7 +122,7 @@ pub fn ration_free_pages(h: &Host) -> u32
 pub fn ration_step(h: &mut Host, bytes: &[u8], answer: &mut [u8; steps::ANSWER])
     ensures { StepsBytes (view h.old) bytes.now (view h.new) answer.new }
 {
-    steps::put_answer(answer, steps::step(h, bytes));
+    steps::put_answer(answer, steps::by_number(steps::step(h, bytes)));
 }
 
 // A journal, run or refused; its answers, and its report's twenty bytes.

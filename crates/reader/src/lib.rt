@@ -1,4 +1,4 @@
-// The reader walks the journal in place: a struct that holds the journal and a position. Callers use `turn`, whose parameters are plain.
+// The reader walks the journal in place: a struct that holds the journal and a position. A loop holds one; who asks once, at a place, takes a `turn`.
 #![tactic(auto)]
 
 ghost use Rattle.std.specs.Prelude.{◌≡◌, length};

@@ -39,7 +39,7 @@ const REFUSAL: usize = 11;
 #[derive(Clone, Copy)]
 enum Stop {
     // what was printed says it
-    Printed(Status),
+    TurnedAway,
     NoImage,
     OtherPolicy,
     UnreadImage,
@@ -49,16 +49,19 @@ enum Stop {
 }
 
 impl Stop {
-    fn status(self) -> Status {
+    // Never that all went well.
+    fn status(self) -> Status
+        ensures { result ≡ Passed → ⊥ }
+    {
         match self {
-            Stop::Printed(status) => status,
+            Stop::TurnedAway => Status::TurnedAway,
             _ => Status::Failed,
         }
     }
 
     fn words(self) -> &'static str {
         match self {
-            Stop::Printed(_) => "",
+            Stop::TurnedAway => "",
             Stop::NoImage => "rpj: wrong use: no image to check\n",
             Stop::OtherPolicy => "rpj: wrong use: --write-through, and the image is write-back\n",
             Stop::UnreadImage => "rpj: the image cannot be read\n",
@@ -78,7 +81,7 @@ fn put(text: &[u8], status: Status) -> Result<(), Stop>
     }
     match status {
         Status::Passed => Ok(()),
-        _ => Err(Stop::Printed(status)),
+        _ => Err(Stop::TurnedAway),
     }
 }
 

@@ -8,7 +8,7 @@ use Rattle.std.specs.Prelude.{Result, Ok, Err}
 use Rattle.numbers.specs.declared.refusal.Refusal.{Refusal}
 use Rattle.numbers.specs.Refusals.{refusal_number}
 use Rattle.numbers.proofs.Answers.{one_code, one_refusal}
-use Rattle.steps.specs.Promises.{answer_from}
+use Rattle.steps.specs.Promises.{answer_from, by_number, numbered}
 
 pub some_number : (r : Refusal) → refusal_number r ≢ 0
 some_number r e =
@@ -20,3 +20,8 @@ one_answer_from (Ok v) (Ok w) e = cc e
 one_answer_from (Ok v) (Err q) e = let z : ◌≡◌ {A = ℕ} 0 1 = cc e in absurd (omega arith)
 one_answer_from (Err r) (Ok w) e = let z : ◌≡◌ {A = ℕ} 0 1 = cc e in absurd (omega arith)
 one_answer_from (Err r) (Err q) e = ap (λ (x : Refusal). Err x) (one_refusal r q (cc e))
+
+-- by its number an answer is told as by the refusal's name
+pub same_answer : (a : Result ℕ Refusal) → numbered (by_number a) ≡ answer_from a
+same_answer (Ok v) = refl
+same_answer (Err r) = refl

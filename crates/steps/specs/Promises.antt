@@ -13,6 +13,16 @@ abbrev pub answer_from : Result ℕ Refusal → Answer
 answer_from (Ok v) = done v
 answer_from (Err r) = refused (refusal_number r)
 
+-- the same of an answer that has its refusal as a number, whatever the number is
+abbrev pub numbered : Result ℕ ℕ → Answer
+numbered (Ok v) = done v
+numbered (Err n) = refused n
+
+-- an answer with its refusal as a number
+abbrev pub by_number : Result ℕ Refusal → Result ℕ ℕ
+by_number (Ok v) = Ok v
+by_number (Err r) = Err (refusal_number r)
+
 -- answer a and state t are those of outcome o
 pub record Gives (o : Outcome) (a : Result ℕ Refusal) (t : State) : Type 0 where
   pub answer : answer_from a ≡ o.answer

@@ -13,7 +13,7 @@ ghost use Rattle.steps.specs.Promises.{Gives, Steps};
 use host::Host;
 pub use most::{run, run_most};
 use numbers::Refusal;
-pub use part::{ANSWER, ANSWER_VALUE, put_answer};
+pub use part::{ANSWER, ANSWER_VALUE, by_number, put_answer};
 use perform::perform;
 use records::Action;
 

@@ -4,7 +4,7 @@ ghost use Rattle.model.specs.Sizes.{record_bytes, answer_bytes};
 ghost use Rattle.host.specs.View.{view};
 ghost use Rattle.model.specs.Journal.{answer_bytes_of};
 ghost use Rattle.reader.specs.Walk.{is_record, number_in};
-ghost use Rattle.steps.specs.Promises.{answer_from};
+ghost use Rattle.steps.specs.Promises.{by_number, numbered};
 ghost use Rattle.steps.specs.Turns.{Turns, Plays, Stores};
 
 use super::judge;
@@ -18,21 +18,31 @@ pub const ANSWER: usize = 8;
 // where its value starts
 pub const ANSWER_VALUE: usize = 4;
 
-// Number, three zeros, value low byte first.
-fn bytes_of(a: Result<u32, Refusal>) -> [u8; ANSWER]
-    ensures { result ≡ answer_bytes_of (answer_from a) }
+// The answer with its refusal as a number.
+pub fn by_number(a: Result<u32, Refusal>) -> Result<u32, u8>
+    ensures { result ≡ by_number a }
+{
+    match a {
+        Ok(v) => Ok(v),
+        Err(r) => Err(u8::from(r)),
+    }
+}
+
+// Number, three zeros, value low byte first: of what is done the number 0, of what is refused the value 0.
+fn bytes_of(a: Result<u32, u8>) -> [u8; ANSWER]
+    ensures { result ≡ answer_bytes_of (numbered a) }
 {
     let (number, value) = match a {
         Ok(v) => (0, v),
-        Err(r) => (u8::from(r), 0),
+        Err(n) => (n, 0),
     };
     let [v0, v1, v2, v3] = value.to_le_bytes();
     [number, 0, 0, 0, v0, v1, v2, v3]
 }
 
-// The answer's bytes, for a caller that has it alone.
-pub fn put_answer(out: &mut [u8; ANSWER], a: Result<u32, Refusal>)
-    ensures { out.new ≡ answer_bytes_of (answer_from a) }
+// The answer's bytes, for a caller that has it alone, and its refusal as a number: any number, so that a caller may have refusals of its own.
+pub fn put_answer(out: &mut [u8; ANSWER], a: Result<u32, u8>)
+    ensures { out.new ≡ answer_bytes_of (numbered a) }
 {
     *out = bytes_of(a);
 }
@@ -43,7 +53,7 @@ pub(crate) fn store(out: &mut [u8], i: usize, a: Result<u32, Refusal>) -> usize
     ensures { Stores out.old i a result out.new }
 {
     let at = ANSWER * i;
-    out[at..at + ANSWER].copy_from_slice(&bytes_of(a));
+    out[at..at + ANSWER].copy_from_slice(&bytes_of(by_number(a)));
     usize::from(a.is_ok())
 }
 

@@ -15,4 +15,4 @@ returns-in-Some c =
 pub returns-in_default : goal.returns-in_default
 returns-in_default c =
     let a = c.args in
-    saved_nowhere (view a.h.now) a.l.page.0 a.l.value (view_sized a.h.now (record { long = c.told-h; small = c.fits-h })) (sym c.lead_in.ensures ∙ c.in_default.is)
+    saved_nowhere (view a.h.now) a.l.page.0 a.l.value (view_sized a.h.now (record { long = c.told-h; small = c.fits-h })).memory (sym c.lead_in.ensures ∙ c.in_default.is)

@@ -1,12 +1,17 @@
--- The library's digits are those of Text.antt.
+-- What is left to type: the last i digits.
 -- Assumes nothing.
-use mathlib.Core.Path.{◌∙◌, ap}
-use borrow.Author.Rules.{rules}
-use Rattle.print.specs.Pages.{typed_all_on}
-use Rattle.print.proofs.Decimal.{decimal_is}
+use mathlib.Core.Path.{ap, ◌∙◌}
+use native.Mathlib.Omega.{arith}
+use Rattle.print.specs.Pages.{typed_on}
+use Rattle.print.proofs.Pages.{on_digit, no_digit}
 use Rattle.print.proofs.Page.number.Goals as goal
 
+pub loop-i-preserved : goal.loop-i-preserved
+loop-i-preserved c =
+    let n = c.args.n in (
+      omega arith,
+      on_digit c.loop-i.self n c.loop-i.i (omega arith) (c.byte.ensures ∙ ap (typed_on c.loop-i.self) c.digit_at.ensures) ∙ c.loop-i.invariant.1,
+    )
+
 pub returns : goal.returns
-returns c =
-    let a = c.args in
-    c.text.ensures ∙ ap (typed_all_on a.self.now) (c.format.ensures.text ∙ decimal_is a.n (search rules))
+returns c = no_digit c.loop-i.self c.args.n c.loop-i.i (omega arith) ∙ c.loop-i.invariant.1
