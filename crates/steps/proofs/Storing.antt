@@ -5,7 +5,7 @@ use mathlib.Core.List.{List, [], ◌∷◌, ◌++◌, append_assoc, append-nil}
 use Prim.Native.Nat.{ℕ, ◌+◌, ◌*◌, ◌≤◌}
 use native.Mathlib.Omega.{arith}
 use lib.ListN.{length, take, drop, length-append, length-drop}
-use lib.Seq.{sets-eq, take_at, drop-append-add, drop-drop}
+use lib.Seq.{sets, sets-eq, take_at, drop-append-add, drop-drop}
 use mir.Val.{bool_byte}
 use Rattle.laws.proofs.Cases.{pick_not}
 use Rattle.laws.proofs.Tests.{eq⇔, not_so}
@@ -20,15 +20,14 @@ use Rattle.steps.specs.Promises.{answer_from}
 use Rattle.steps.specs.Turns.{answer_at, counts}
 use Rattle.steps.proofs.Refusals.{some_number}
 
--- an answer's bytes d, m of them, between what is before them and what is behind
-pub stored : (b : List ℕ) (i m : ℕ) (x : Answer) {d : List ℕ} → answer_bytes * i + answer_bytes ≤ length b → m ≡ answer_bytes → d ≡ answer_bytes_of x
-    → take (answer_bytes * i) b ++ (d ++ drop m (drop (answer_bytes * i) b)) ≡ answer_at b i x
-stored b i m x {d} h e f =
-    let at = answer_bytes * i in
-    let z : answer_at b i x ≡ take at b ++ answer_bytes_of x ++ drop (at + answer_bytes) b = sets-eq (answer_bytes_of x) b at h in
+-- bytes d, m of them, between what is before them and what is behind
+pub stored : (b : List ℕ) (at m : ℕ) (x : List ℕ) {d : List ℕ} → at + answer_bytes ≤ length b → m ≡ answer_bytes → length x ≡ answer_bytes → d ≡ x
+    → take at b ++ (d ++ drop m (drop at b)) ≡ sets b at x
+stored b at m x {d} h e n f =
+    let z : sets b at x ≡ take at b ++ x ++ drop (at + length x) b = sets-eq x b at (omega arith) in
     (λ k. take at b ++ (f k ++ drop (e k) (drop at b)))
-    ∙ ap (λ (l : List ℕ). take at b ++ (answer_bytes_of x ++ l)) (drop-drop answer_bytes at b)
-    ∙ sym (append_assoc (take at b) (answer_bytes_of x) (drop (at + answer_bytes) b))
+    ∙ ap (λ (l : List ℕ). take at b ++ (x ++ l)) (drop-drop answer_bytes at b ∙ ap (λ (k : ℕ). drop (at + k) b) (sym n))
+    ∙ sym (append_assoc (take at b) x (drop (at + length x) b))
     ∙ sym z
 
 -- what an answer counts

@@ -1,5 +1,6 @@
 // Records that lie one after another, each judged where it lies, its answer stored.
 ghost use Rattle.std.specs.Prelude.{◌≡◌, true, ◌+◌, ◌*◌, ◌-◌, ◌≤◌, length};
+ghost use Rattle.std.proofs.lemmas.List.Edits.{sets};
 ghost use Rattle.model.specs.Sizes.{record_bytes, answer_bytes};
 ghost use Rattle.host.specs.View.{view};
 ghost use Rattle.model.specs.Journal.{answer_bytes_of};
@@ -47,14 +48,22 @@ pub fn put_answer(out: &mut [u8; ANSWER], a: Result<u32, u8>)
     *out = bytes_of(a);
 }
 
+// The bytes, from a place on.
+fn put(out: &mut [u8], at: usize, bytes: [u8; ANSWER])
+    requires { at + answer_bytes ≤ length out.old }
+    ensures { out.new ≡ sets out.old at bytes }
+{
+    out[at..at + ANSWER].copy_from_slice(&bytes);
+}
+
 // The answer, as answer i; 1 if it is done.
 pub(crate) fn store(out: &mut [u8], i: usize, a: Result<u32, Refusal>) -> usize
     requires { answer_bytes * i + answer_bytes ≤ length out.old }
     ensures { Stores out.old i a result out.new }
 {
-    let at = ANSWER * i;
-    out[at..at + ANSWER].copy_from_slice(&bytes_of(by_number(a)));
-    usize::from(a.is_ok())
+    let done = usize::from(a.is_ok());
+    put(out, ANSWER * i, bytes_of(by_number(a)));
+    done
 }
 
 // The record that the reader found, judged where it lies; 1 if it is done.
